@@ -1,0 +1,5 @@
+pub mod Frames
+pub mod Transmissions
+mod Meanings
+mod Placing
+mod Making

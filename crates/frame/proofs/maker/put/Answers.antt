@@ -1,0 +1,6 @@
+use borrow.Author.Needs.{needs}
+use Rattle.frame.proofs.Placing.{placed-by-copy}
+use Rattle.frame.proofs.maker.put.Needs as need
+
+pub returns : need.returns
+returns c = record { next = search needs; after = placed-by-copy (c .args .at) (c .args .out .now) (c .args .part .now) (c .copy-from-slice .ensures .after) }
