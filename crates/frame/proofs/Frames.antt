@@ -86,9 +86,9 @@ module _ (start w : ℕ) (span : List ℕ) (f : Parts) where
       let d1 = length-drop 1 span in
       let j : drop w (drop 1 span) ≡ tail f = drop-drop w 1 span ∙ (ap (λ n. drop n span) (add-comm 1 w) ∙ r .1) in
       let t : drop 1 span ≡ f .address ++ tail f = sym (take-append-drop w (drop 1 span)) ∙ cc (r .0, j) in
-      record
-      { wide = ap length (sym (r .0)) ∙ length-take-le w (drop 1 span) (omega arith)
-      ; spelled = headed span (omega arith) ∙ (cc (s, t) ∙ sym (regroup start f))
+      record {
+        wide = ap length (sym (r .0)) ∙ length-take-le w (drop 1 span) (omega arith);
+        spelled = headed span (omega arith) ∙ (cc (s, t) ∙ sym (regroup start f));
       }
 
 -- the same for a request's frame, whichever its start

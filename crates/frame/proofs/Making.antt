@@ -16,10 +16,10 @@ use Rattle.frame.proofs.Placing.{Wrote, wrote-more}
 use Rattle.frame.proofs.Transmissions.{transmits, complete}
 
 module _ (q : Request) (start : ℕ) (before now after : List ℕ) (mid end : ℕ)
-  (formed : request? q ≡ true) (starts : start ≡ requestStart (length (q .address))) (room : length (transmission q) ≤ length before)
-  (led : Wrote 0 (replicate (q .preambles) 255) before now mid)
-  (framed : after ≡ placed mid (frameBytes start (q .address) (q .command) (q .«data»)) now)
-  (ends : end ≡ mid + length (frameBytes start (q .address) (q .command) (q .«data»))) where
+    (formed : request? q ≡ true) (starts : start ≡ requestStart (length (q .address))) (room : length (transmission q) ≤ length before)
+    (led : Wrote 0 (replicate (q .preambles) 255) before now mid)
+    (framed : after ≡ placed mid (frameBytes start (q .address) (q .command) (q .«data»)) now)
+    (ends : end ≡ mid + length (frameBytes start (q .address) (q .command) (q .«data»))) where
   wrote : Wrote 0 (transmission q) before after end
   wrote =
       let frame = frameBytes start (q .address) (q .command) (q .«data») in

@@ -25,7 +25,7 @@ module _ (at : ℕ) (p buffer : List ℕ) (room : at + length p ≤ length buffe
       let t = take-at (take at buffer ++ p) (drop (at + length p) buffer) (at + length p) front in
       let d = drop-at (take at buffer ++ p) (drop (at + length p) buffer) (at + length p) front in
       let e : drop (at + length p + length q) (placed at p buffer) ≡ drop (at + length (p ++ q)) buffer =
-        sym (drop-drop (length q) (at + length p) (placed at p buffer)) ∙ (ap (drop (length q)) d ∙ (drop-drop (length q) (at + length p) buffer ∙ ap (λ n. drop n buffer) (omega (arith, length-append p q)))) in
+      sym (drop-drop (length q) (at + length p) (placed at p buffer)) ∙ (ap (drop (length q)) d ∙ (drop-drop (length q) (at + length p) buffer ∙ ap (λ n. drop n buffer) (omega (arith, length-append p q)))) in
       rw (t, e) (ap (λ (xs : List ℕ). xs ++ drop (at + length (p ++ q)) buffer) (append-assoc (take at buffer) p q))
 
   -- what was written stands there
@@ -41,7 +41,7 @@ pub record Wrote (at : ℕ) (w buffer now : List ℕ) (end : ℕ) : Type 0 where
   pub ends : end ≡ at + length w
 
 pub wrote-more : {at : ℕ} {w buffer now after : List ℕ} {end next : ℕ} (q : List ℕ) → Wrote at w buffer now end → at + length w ≤ length buffer → after ≡ placed end q now → next ≡ end + length q → Wrote at (w ++ q) buffer after next
-wrote-more {at} {w} {buffer} {now} {after} {end} {next} q h room p n = record
-  { holds = p ∙ (rw (h .ends, h .holds) (placed-more at w buffer room q))
-  ; ends = omega (arith, n, h .ends, length-append w q)
-  }
+wrote-more {at} {w} {buffer} {now} {after} {end} {next} q h room p n = record {
+  holds = p ∙ (rw (h .ends, h .holds) (placed-more at w buffer room q));
+  ends = omega (arith, n, h .ends, length-append w q);
+}

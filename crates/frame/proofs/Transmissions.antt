@@ -62,16 +62,16 @@ unwrapped n (Err k) q e = let z : _≡_ {A = ℕ} 0 1 = cc in absurd (omega arit
 pub reads : (q : Request) (bytes : List ℕ) → readRequest bytes ≡ Ok q → Transmits q bytes
 reads q bytes e = elim (cases-bool (leb 2 (preamblesOf bytes) && eqb (checkOf (spanOf bytes)) 0)) [
   | inl t ↦
-    let p = and-parts (leb 2 (preamblesOf bytes)) (eqb (checkOf (spanOf bytes)) 0) t in
-    let u = unwrapped (preamblesOf bytes) (requestFrame (spanOf bytes)) q (rw t at e) in
-    subst (λ (x : Request). Transmits x bytes) (u .2) (record
-    { span = spanOf bytes
-    ; check = u .0 .check
-    ; led = leb-true 2 (preamblesOf bytes) (p .0)
-    ; spelled = led bytes
-    ; framed = read-request (spanOf bytes) (u .0) (u .1)
-    ; sound = eqb-true (checkOf (spanOf bytes)) 0 (p .1)
-    })
+      let p = and-parts (leb 2 (preamblesOf bytes)) (eqb (checkOf (spanOf bytes)) 0) t in
+      let u = unwrapped (preamblesOf bytes) (requestFrame (spanOf bytes)) q (rw t at e) in
+      subst (λ (x : Request). Transmits x bytes) (u .2) (record {
+        span = spanOf bytes;
+        check = u .0 .check;
+        led = leb-true 2 (preamblesOf bytes) (p .0);
+        spelled = led bytes;
+        framed = read-request (spanOf bytes) (u .0) (u .1);
+        sound = eqb-true (checkOf (spanOf bytes)) 0 (p .1);
+      })
   | inr t ↦ let z : _≡_ {A = ℕ} 0 1 = let h = rw t at e in cc in absurd (omega arith)
 ]
 
@@ -89,21 +89,21 @@ sound-checked bytes c e =
 pub transmits : (q : Request) → request? q ≡ true → Transmits q (transmission q)
 transmits q h =
     let wide : (length (q .address) ≡ 1) ⊎ (length (q .address) ≡ 5) = grind (arith, tells) in
-    record
-    { span = frameBytes (requestStart (length (q .address))) (q .address) (q .command) (q .«data»)
-    ; check = checkOf (requestStart (length (q .address)) ∷ q .address ++ q .command ∷ length (q .«data») ∷ q .«data»)
-    ; led = grind (arith, tells)
-    ; spelled = refl
-    ; framed = elim wide [
-      | inl w ↦ inl (record { wide = w; spelled = rw w refl })
-      | inr w ↦ inr (record { wide = w; spelled = rw w refl })
-      ]
-    ; sound = checked-sound (requestStart (length (q .address)) ∷ q .address ++ q .command ∷ length (q .«data») ∷ q .«data»)
+    record {
+      span = frameBytes (requestStart (length (q .address))) (q .address) (q .command) (q .«data»);
+      check = checkOf (requestStart (length (q .address)) ∷ q .address ++ q .command ∷ length (q .«data») ∷ q .«data»);
+      led = grind (arith, tells);
+      spelled = refl;
+      framed = elim wide [
+        | inl w ↦ inl (record { wide = w; spelled = rw w refl })
+        | inr w ↦ inr (record { wide = w; spelled = rw w refl })
+      ];
+      sound = checked-sound (requestStart (length (q .address)) ∷ q .address ++ q .command ∷ length (q .«data») ∷ q .«data»);
     }
 
 -- at either width: the start byte that the maker takes is the one that stands there
 module _ (q : Request) (bytes : List ℕ) (b : All (λ b. b < 256) bytes) (h : Transmits q bytes) (few : q .preambles ≤ 20)
-  (start w : ℕ) (starts : requestStart w ≡ start) (known : (w ≡ 1) ⊎ (w ≡ 5)) (f : Framed start w (h .span) (partsWith q (h .check))) where
+    (start w : ℕ) (starts : requestStart w ≡ start) (known : (w ≡ 1) ⊎ (w ≡ 5)) (f : Framed start w (h .span) (partsWith q (h .check))) where
   again-at : MadeAgain bytes q
   again-at =
       let bare = start ∷ q .address ++ q .command ∷ length (q .«data») ∷ q .«data» in
@@ -112,9 +112,9 @@ module _ (q : Request) (bytes : List ℕ) (b : All (λ b. b < 256) bytes) (h : T
       let l = data-limit start w (h .span) (partsWith q (h .check)) f bs in
       let e = f .wide in
       let m = h .led in
-      record
-      { formed = grind (arith, tells)
-      ; same = rw (f .wide, starts, c, h .spelled, f .spelled) refl
+      record {
+        formed = grind (arith, tells);
+        same = rw (f .wide, starts, c, h .spelled, f .spelled) refl;
       }
 
 pub made-again : (q : Request) (bytes : List ℕ) → All (λ b. b < 256) bytes → Transmits q bytes → q .preambles ≤ 20 → MadeAgain bytes q

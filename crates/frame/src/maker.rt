@@ -5,7 +5,10 @@ ghost use Rattle.std.specs.Vec.{made};
 ghost use Rattle.refusals.specs.Refusals.{numbered};
 ghost use Rattle.refusals.specs.Filling.{Fills};
 ghost use Rattle.frame.specs.Making.{request?, transmission, frameBytes, placed, asked, ReadsBack};
+use crate::LEAST_PREAMBLES;
 use crate::LONG_REQUEST;
+use crate::MOST_DATA;
+use crate::MOST_PREAMBLES;
 use crate::PREAMBLE;
 use crate::SHORT_REQUEST;
 use crate::check;
@@ -13,7 +16,13 @@ use refusals::Refusal;
 
 // Makes a request's transmission in the front of `out` and answers its length: 110 unless it has 2 to 20 preambles, an
 // address of 1 or 5 bytes and at most 255 data bytes, then 102 where `out` is too short.
-pub fn make_request(preambles: usize, address: &[u8], command: u8, data: &[u8], out: &mut [u8]) -> Result<usize, Refusal>
+pub fn make_request(
+    preambles: usize,
+    address: &[u8],
+    command: u8,
+    data: &[u8],
+    out: &mut [u8],
+) -> Result<usize, Refusal>
     ensures fills { λ r. ⌜ Fills (request? (asked preambles (now (address .entry)) command (now («data» .entry)))) (transmission (asked preambles (now (address .entry)) command (now («data» .entry)))) (now (out .entry)) (numbered r) (now (out .exit)) ⌝ }
     ensures back { λ r. ⌜ made r (λ n. ReadsBack (asked preambles (now (address .entry)) command (now («data» .entry))) (take n (now (out .exit)))) ⌝ }
 {
@@ -22,18 +31,25 @@ pub fn make_request(preambles: usize, address: &[u8], command: u8, data: &[u8], 
         5 => LONG_REQUEST,
         _ => return Err(Refusal::OutOfForm),
     };
-    if preambles < 2 || preambles > 20 || data.len() > 255 {
+    if preambles < LEAST_PREAMBLES || preambles > MOST_PREAMBLES || data.len() > MOST_DATA {
         return Err(Refusal::OutOfForm);
     }
     if out.len() < preambles + address.len() + data.len() + 4 {
         return Err(Refusal::ShortBuffer);
     }
-    let end = put(out, 0, &[PREAMBLE; 20][0..preambles]);
+    let end = put(out, 0, &[PREAMBLE; MOST_PREAMBLES][0..preambles]);
     Ok(put_frame(out, end, start, address, command, data))
 }
 
 // Writes a frame from `at` on and answers where it ends.
-fn put_frame(out: &mut [u8], at: usize, start: u8, address: &[u8], command: u8, data: &[u8]) -> usize
+fn put_frame(
+    out: &mut [u8],
+    at: usize,
+    start: u8,
+    address: &[u8],
+    command: u8,
+    data: &[u8],
+) -> usize
     requires { ⌜ at + (length (now address) + length (now «data») + 4) ≤ length (now out) ⌝ ∗ ⌜ length (now «data») ≤ 255 ⌝ }
     ensures next { λ r. ⌜ r ≡ at + length (frameBytes start (now (address .entry)) command (now («data» .entry))) ⌝ }
     ensures after { λ _. ⌜ now (out .exit) ≡ placed at (frameBytes start (now (address .entry)) command (now («data» .entry))) (now (out .entry)) ⌝ }

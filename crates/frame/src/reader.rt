@@ -9,6 +9,7 @@ ghost use Rattle.frame.specs.Transmissions.{Request, Transmits, preamblesOf, r
 ghost use Rattle.frame.specs.Views.{addressBytes, Fitting, frameParts, requestParts, viewed};
 use crate::Address;
 use crate::Frame;
+use crate::LEAST_PREAMBLES;
 use crate::LONG_REQUEST;
 use crate::PREAMBLE;
 use crate::SHORT_REQUEST;
@@ -25,7 +26,7 @@ pub fn read_request(bytes: &[u8]) -> Result<Transmission<'_>, Refusal>
 {
     let preambles = count_preambles(bytes);
     let span = &bytes[preambles..];
-    if preambles < 2 || check(span) != 0 {
+    if preambles < LEAST_PREAMBLES || check(span) != 0 {
         return Err(Refusal::OutOfForm);
     }
     let frame = read_frame(span)?;

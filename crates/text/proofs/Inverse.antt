@@ -10,7 +10,7 @@ use Rattle.std.specs.shelf.Lists.{All}
 use Rattle.std.proofs.shelf.Tests.{and-parts, and-from, eqb-true, eq-eqb, leb-true, le-leb}
 use Rattle.std.proofs.shelf.Elements.{all-take, all-drop, all-append}
 use Rattle.text.specs.Groups.{grouped}
-use Rattle.text.specs.Text.{letter?, letters?, text?, packed?, packed, unpacked, letter, bitsOfLetters, bitsOfBytes, threeBytes, fourLetters, ReadsBack, PacksAgain}
+use Rattle.text.specs.Text.{letter?, letters?, text?, packed?, packed, unpacked, letterOf, bitsOfLetters, bitsOfBytes, threeBytes, fourLetters, ReadsBack, PacksAgain}
 use Rattle.text.proofs.Groups.{length-grouped, regrouped}
 
 abbrev Letter : ℕ → Type 0
@@ -25,10 +25,10 @@ pack4 t = threeBytes (bitsOfLetters t)
 abbrev unpack3 : List ℕ → List ℕ
 unpack3 p = fourLetters (bitsOfBytes p)
 
-letter-back : (l : ℕ) → Letter l → letter (l % 64) ≡ l
+letter-back : (l : ℕ) → Letter l → letterOf (l % 64) ≡ l
 letter-back l h = omega arith
 
-six-back : (v : ℕ) → v < 64 → letter v % 64 ≡ v
+six-back : (v : ℕ) → v < 64 → letterOf v % 64 ≡ v
 six-back v h = omega arith
 
 bytes-bits : (g : ℕ) → bitsOfBytes (threeBytes g) ≡ g
@@ -36,10 +36,10 @@ bytes-bits g = omega arith
 
 letters-bits : (g : ℕ) → g < 16777216 → bitsOfLetters (fourLetters g) ≡ g
 letters-bits g h =
-    let a : letter (g / 262144) % 64 ≡ g / 262144 = six-back (g / 262144) (omega arith) in
-    let b : letter (g / 4096 % 64) % 64 ≡ g / 4096 % 64 = six-back (g / 4096 % 64) (omega arith) in
-    let c : letter (g / 64 % 64) % 64 ≡ g / 64 % 64 = six-back (g / 64 % 64) (omega arith) in
-    let d : letter (g % 64) % 64 ≡ g % 64 = six-back (g % 64) (omega arith) in
+    let a : letterOf (g / 262144) % 64 ≡ g / 262144 = six-back (g / 262144) (omega arith) in
+    let b : letterOf (g / 4096 % 64) % 64 ≡ g / 4096 % 64 = six-back (g / 4096 % 64) (omega arith) in
+    let c : letterOf (g / 64 % 64) % 64 ≡ g / 64 % 64 = six-back (g / 64 % 64) (omega arith) in
+    let d : letterOf (g % 64) % 64 ≡ g % 64 = six-back (g % 64) (omega arith) in
     rw (a, b, c, d) (omega arith)
 
 unpack-pack : (t : List ℕ) → length t ≡ 4 → All Letter t → unpack3 (pack4 t) ≡ t
@@ -54,7 +54,7 @@ unpack-pack (a ∷ b ∷ c ∷ d ∷ []) l h =
     let q : g / 4096 % 64 ≡ b % 64 = omega arith in
     let r : g / 64 % 64 ≡ c % 64 = omega arith in
     let s : g % 64 ≡ d % 64 = omega arith in
-    ap fourLetters (bytes-bits g) ∙ cc (ap letter p, ap letter q, ap letter r, ap letter s, letter-back a (h .0), letter-back b (h .1 .0), letter-back c (h .1 .1 .0), letter-back d (h .1 .1 .1 .0))
+    ap fourLetters (bytes-bits g) ∙ cc (ap letterOf p, ap letterOf q, ap letterOf r, ap letterOf s, letter-back a (h .0), letter-back b (h .1 .0), letter-back c (h .1 .1 .0), letter-back d (h .1 .1 .1 .0))
 
 pack-unpack : (p : List ℕ) → length p ≡ 3 → All Byte p → pack4 (unpack3 p) ≡ p
 pack-unpack [] l h = absurd (omega arith)
@@ -80,7 +80,7 @@ all-letters [] h = refl
 all-letters (l ∷ t) h =
     and-from (letter? l) (letters? t) (and-from (leb 32 l) (leb l 95) (le-leb 32 l (h .0 .0)) (le-leb l 95 (h .0 .1))) (all-letters t (h .1))
 
-six-letter : (v : ℕ) → v < 64 → Letter (letter v)
+six-letter : (v : ℕ) → v < 64 → Letter (letterOf v)
 six-letter v h = (omega arith, omega arith)
 
 byte-at : (p : List ℕ) (i : ℕ) → All Byte p → getD p i 0 < 256
@@ -113,13 +113,17 @@ reads-back t h =
     let m = eqb-true (length t % 4) 0 (f .0) in
     let l = length-packed t in
     let n : length (packed t) / 3 ≡ length t / 4 = omega arith in
-    record { formed = eq-eqb (length (packed t) % 3) 0 (omega arith)
-           ; same = rw n (regrouped pack4 4 3 (λ _. refl) unpack3 Letter unpack-pack (length t / 4) t (omega arith) (letters-all t (f .1))) }
+    record {
+      formed = eq-eqb (length (packed t) % 3) 0 (omega arith);
+      same = rw n (regrouped pack4 4 3 (λ _. refl) unpack3 Letter unpack-pack (length t / 4) t (omega arith) (letters-all t (f .1)));
+    }
 
 pub packs-again : (p : List ℕ) → All Byte p → packed? p ≡ true → PacksAgain p (unpacked p)
 packs-again p b h =
     let m = eqb-true (length p % 3) 0 h in
     let l = length-unpacked p in
     let n : length (unpacked p) / 4 ≡ length p / 3 = omega arith in
-    record { formed = and-from (eqb (length (unpacked p) % 4) 0) (letters? (unpacked p)) (eq-eqb (length (unpacked p) % 4) 0 (omega arith)) (all-letters (unpacked p) (unpacked-letters (length p / 3) p b))
-           ; same = rw n (regrouped unpack3 3 4 (λ _. refl) pack4 Byte pack-unpack (length p / 3) p (omega arith) b) }
+    record {
+      formed = and-from (eqb (length (unpacked p) % 4) 0) (letters? (unpacked p)) (eq-eqb (length (unpacked p) % 4) 0 (omega arith)) (all-letters (unpacked p) (unpacked-letters (length p / 3) p b));
+      same = rw n (regrouped unpack3 3 4 (λ _. refl) pack4 Byte pack-unpack (length p / 3) p (omega arith) b);
+    }

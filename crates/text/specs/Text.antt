@@ -24,16 +24,16 @@ abbrev pub packed? : List ℕ → Bool
 packed? p = eqb (length p % 3) 0
 
 -- the six low bits of a letter
-abbrev pub six : ℕ → ℕ
-six l = l % 64
+abbrev pub sixBits : ℕ → ℕ
+sixBits l = l % 64
 
 -- the letter of six bits: its bit 6 is the complement of its bit 5
-abbrev pub letter : ℕ → ℕ
-letter v = v + 64 * (1 - v / 32)
+abbrev pub letterOf : ℕ → ℕ
+letterOf v = v + 64 * (1 - v / 32)
 
 -- the 24 bits of four letters, the first letter highest
 abbrev pub bitsOfLetters : List ℕ → ℕ
-bitsOfLetters t = ((six (getD t 0 0) * 64 + six (getD t 1 0)) * 64 + six (getD t 2 0)) * 64 + six (getD t 3 0)
+bitsOfLetters t = ((sixBits (getD t 0 0) * 64 + sixBits (getD t 1 0)) * 64 + sixBits (getD t 2 0)) * 64 + sixBits (getD t 3 0)
 
 -- the 24 bits of three bytes, the first byte highest
 abbrev pub bitsOfBytes : List ℕ → ℕ
@@ -43,7 +43,7 @@ abbrev pub threeBytes : ℕ → List ℕ
 threeBytes g = g / 65536 ∷ g / 256 % 256 ∷ g % 256 ∷ []
 
 abbrev pub fourLetters : ℕ → List ℕ
-fourLetters g = letter (g / 262144) ∷ letter (g / 4096 % 64) ∷ letter (g / 64 % 64) ∷ letter (g % 64) ∷ []
+fourLetters g = letterOf (g / 262144) ∷ letterOf (g / 4096 % 64) ∷ letterOf (g / 64 % 64) ∷ letterOf (g % 64) ∷ []
 
 -- a text packed: three bytes for each four letters
 abbrev pub packed : List ℕ → List ℕ

@@ -5,7 +5,7 @@ ghost use lib.ListN.{length, take};
 ghost use Rattle.std.specs.Vec.{made};
 ghost use Rattle.refusals.specs.Refusals.{numbered};
 ghost use Rattle.refusals.specs.Filling.{Fills};
-ghost use Rattle.text.specs.Text.{letter, letters?, text?, packed?, packed, unpacked, bitsOfLetters, bitsOfBytes, threeBytes, fourLetters, ReadsBack, PacksAgain};
+ghost use Rattle.text.specs.Text.{sixBits, letterOf, letters?, text?, packed?, packed, unpacked, bitsOfLetters, bitsOfBytes, threeBytes, fourLetters, ReadsBack, PacksAgain};
 use refusals::Refusal;
 
 // Packs `text` into the front of `out` and answers how many bytes it wrote: 110 unless the text is letters in groups of
@@ -60,23 +60,28 @@ fn all_letters(text: &[u8]) -> bool
 }
 
 // The letter of six bits: bit 6 is the complement of bit 5.
-fn letter(six: u32) -> u8
-    requires { ⌜ six < 64 ⌝ }
-    ensures { λ r. ⌜ r ≡ letter six ⌝ }
+fn letter(bits: u32) -> u8
+    requires { ⌜ bits < 64 ⌝ }
+    ensures { λ r. ⌜ r ≡ letterOf bits ⌝ }
 {
-    let bit_5 = six / 32;
-    (six + 64 * (1 - bit_5)) as u8
+    let bit_5 = bits / 32;
+    (bits + 64 * (1 - bit_5)) as u8
+}
+
+// The six low bits of a letter.
+fn six_bits(letter: u8) -> u32
+    ensures { λ r. ⌜ r ≡ sixBits letter ⌝ }
+{
+    u32::from(letter % 64)
 }
 
 fn three_bytes(letters: &[u8]) -> [u8; 3]
     requires { ⌜ length (now letters) ≡ 4 ⌝ }
     ensures { λ r. ⌜ r ≡ threeBytes (bitsOfLetters (now (letters .entry))) ⌝ }
 {
-    let mut group = 0u32;
-    group = group * 64 + u32::from(letters[0] % 64);
-    group = group * 64 + u32::from(letters[1] % 64);
-    group = group * 64 + u32::from(letters[2] % 64);
-    group = group * 64 + u32::from(letters[3] % 64);
+    let group = ((six_bits(letters[0]) * 64 + six_bits(letters[1])) * 64 + six_bits(letters[2]))
+        * 64
+        + six_bits(letters[3]);
     let [_, first, second, third] = group.to_be_bytes();
     [first, second, third]
 }
@@ -86,5 +91,42 @@ fn four_letters(bytes: &[u8]) -> [u8; 4]
     ensures { λ r. ⌜ r ≡ fourLetters (bitsOfBytes (now (bytes .entry))) ⌝ }
 {
     let group = u32::from_be_bytes([0, bytes[0], bytes[1], bytes[2]]);
-    [letter(group / 262144), letter(group / 4096 % 64), letter(group / 64 % 64), letter(group % 64)]
+    [
+        letter(group >> 18),
+        letter((group >> 12) % 64),
+        letter((group >> 6) % 64),
+        letter(group % 64),
+    ]
+}
+
+#[cfg(test)]
+mod tests {
+    use super::*;
+    use refusals::RefusalDebug;
+    use refusals::RefusalPartialEq;
+    use std::test::*;
+
+    #[test]
+    fn tag_both_ways() -> Result<(), Fail> {
+        let mut packed = [0xA5; 7];
+        check_eq(pack(b"MFC-1234", &mut packed), Ok(6))?;
+        check_eq(packed, [0x34, 0x60, 0xED, 0xC7, 0x2C, 0xF4, 0xA5])?;
+        let mut letters = [0xA5; 9];
+        check_eq(unpack(&packed[0..6], &mut letters), Ok(8))?;
+        check_eq(letters, *b"MFC-1234\xA5")
+    }
+
+    #[test]
+    fn refusals() -> Result<(), Fail> {
+        let mut out = [0xA5; 5];
+        check_eq(pack(b"MFC-123", &mut out), Err(Refusal::OutOfForm))?;
+        check_eq(pack(b"mfc-1234", &mut out), Err(Refusal::OutOfForm))?;
+        check_eq(pack(b"MFC-1234", &mut out), Err(Refusal::ShortBuffer))?;
+        check_eq(unpack(&[1, 2], &mut out), Err(Refusal::OutOfForm))?;
+        check_eq(
+            unpack(&[1, 2, 3, 4, 5, 6], &mut out),
+            Err(Refusal::ShortBuffer),
+        )?;
+        check_eq(out, [0xA5; 5])
+    }
 }

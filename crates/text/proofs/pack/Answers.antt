@@ -16,7 +16,7 @@ use Rattle.text.proofs.Inverse.{length-packed, reads-back}
 use Rattle.text.proofs.pack.Needs as need
 
 pub returns-then-out-groups : need.returns-then-out-groups
-returns-then-out-groups c = record { fills = fills-short (and-from (eqb (length (c .args .text .now) % 4) 0) (letters? (c .args .text .now)) (eq-eqb (length (c .args .text .now) % 4) 0 (c .if-text-ne0 .left)) (sym (c .if-not-all-letters .ensures tt))) (omega (arith, length-packed (c .args .text .now))); back = tt }
+returns-then-out-groups c = record { fills = fills-short (and-from (eqb (length (c .args .text .now) % 4) 0) (letters? (c .args .text .now)) (eq-eqb (length (c .args .text .now) % 4) 0 (omega arith)) (sym (c .if-not-all-letters .ensures tt))) (omega (arith, length-packed (c .args .text .now))); back = tt }
 
 pub loop-i-again : need.loop-i-again
 loop-i-again c =
@@ -27,7 +27,9 @@ pub returns : need.returns
 returns c =
     let i : c .loop-i .i ≡ length (c .args .text .now) / 4 = omega arith in
     let l = length-packed (c .args .text .now) in
-    let formed : text? (c .args .text .now) ≡ true = and-from (eqb (length (c .args .text .now) % 4) 0) (letters? (c .args .text .now)) (eq-eqb (length (c .args .text .now) % 4) 0 (c .if-text-ne0 .left)) (sym (c .if-not-all-letters .ensures tt)) in
+    let formed : text? (c .args .text .now) ≡ true = and-from (eqb (length (c .args .text .now) % 4) 0) (letters? (c .args .text .now)) (eq-eqb (length (c .args .text .now) % 4) 0 (omega arith)) (sym (c .if-not-all-letters .ensures tt)) in
     let out : c .loop-i .out ≡ packed (c .args .text .now) ++ drop (length (packed (c .args .text .now))) (c .args .out .now) = rw (l, ← i) (c .loop-i .inv) in
-    record { fills = fills-done formed (omega arith) (sym l) out
-           ; back = rw (out, take-at (packed (c .args .text .now)) (drop (length (packed (c .args .text .now))) (c .args .out .now)) (length (c .args .text .now) / 4 * 3) l) (reads-back (c .args .text .now) formed) }
+    record {
+      fills = fills-done formed (omega arith) (sym l) out;
+      back = rw (out, take-at (packed (c .args .text .now)) (drop (length (packed (c .args .text .now))) (c .args .out .now)) (length (c .args .text .now) / 4 * 3) l) (reads-back (c .args .text .now) formed);
+    }

@@ -16,7 +16,7 @@ use Rattle.text.proofs.Inverse.{length-unpacked, packs-again}
 use Rattle.text.proofs.unpack.Needs as need
 
 pub returns-then-out-groups : need.returns-then-out-groups
-returns-then-out-groups c = record { fills = fills-short (eq-eqb (length (c .args .packed .now) % 3) 0 (c .if-packed-ne0 .left)) (omega (arith, length-unpacked (c .args .packed .now))); back = tt }
+returns-then-out-groups c = record { fills = fills-short (eq-eqb (length (c .args .packed .now) % 3) 0 (omega arith)) (omega (arith, length-unpacked (c .args .packed .now))); back = tt }
 
 pub loop-i-again : need.loop-i-again
 loop-i-again c =
@@ -27,7 +27,9 @@ pub returns : need.returns
 returns c =
     let i : c .loop-i .i ≡ length (c .args .packed .now) / 3 = omega arith in
     let l = length-unpacked (c .args .packed .now) in
-    let formed : packed? (c .args .packed .now) ≡ true = eq-eqb (length (c .args .packed .now) % 3) 0 (c .if-packed-ne0 .left) in
+    let formed : packed? (c .args .packed .now) ≡ true = eq-eqb (length (c .args .packed .now) % 3) 0 (omega arith) in
     let out : c .loop-i .out ≡ unpacked (c .args .packed .now) ++ drop (length (unpacked (c .args .packed .now))) (c .args .out .now) = rw (l, ← i) (c .loop-i .inv) in
-    record { fills = fills-done formed (omega arith) (sym l) out
-           ; back = rw (out, take-at (unpacked (c .args .packed .now)) (drop (length (unpacked (c .args .packed .now))) (c .args .out .now)) (length (c .args .packed .now) / 3 * 4) l) (packs-again (c .args .packed .now) (all-from-getD (λ b. b < 256) (c .args .packed .now) 0 (λ i _. omega (arith, c .typed .packed i))) formed) }
+    record {
+      fills = fills-done formed (omega arith) (sym l) out;
+      back = rw (out, take-at (unpacked (c .args .packed .now)) (drop (length (unpacked (c .args .packed .now))) (c .args .out .now)) (length (c .args .packed .now) / 3 * 4) l) (packs-again (c .args .packed .now) (all-from-getD (λ b. b < 256) (c .args .packed .now) 0 (λ i _. omega (arith, c .typed .packed i))) formed);
+    }

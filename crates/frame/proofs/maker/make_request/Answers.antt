@@ -30,7 +30,7 @@ pub returns-then-out-preambles : need.returns-then-out-preambles
 returns-then-out-preambles c =
     let q = asked (c .args .preambles) (c .args .address .now) (c .args .command) (c .args .«data» .now) in
     let w : Wide (length (c .args .address .now)) (c .match-address .start) = elim (c .match-address .came) [ in-1 w ↦ search needs | in-5 w ↦ search needs ] in
-    record { fills = fills-short (formed q (w .0) (c .if-preambles-lt2 .left) (c .if-preambles-gt20 .left) (c .if-data-gt255 .left)) (omega (arith, length-transmission q, c .if-out-preambles .taken)); back = tt }
+    record { fills = fills-short (formed q (w .0) (omega arith) (omega arith) (omega arith)) (omega (arith, length-transmission q)); back = tt }
 
 pub returns : need.returns
 returns c =
@@ -38,11 +38,11 @@ returns c =
     let n = c .args .preambles in
     let q = asked n (c .args .address .now) (c .args .command) (c .args .«data» .now) in
     let w : Wide (length (c .args .address .now)) (c .match-address .start) = elim (c .match-address .came) [ in-1 w ↦ search needs | in-5 w ↦ search needs ] in
-    let f = formed q (w .0) (c .if-preambles-lt2 .left) (c .if-preambles-gt20 .left) (c .if-data-gt255 .left) in
-    let room : length (transmission q) ≤ length out = omega (arith, length-transmission q, c .if-out-preambles .left) in
-    let p : midOf {X = ℕ} 0 (n - 0) (replicate 20 255) ≡ replicate n 255 = rw sub-zero (take-replicate {X = ℕ} n 20 255 (c .if-preambles-gt20 .left)) in
+    let f = formed q (w .0) (omega arith) (omega arith) (omega arith) in
+    let room : length (transmission q) ≤ length out = omega (arith, length-transmission q) in
+    let p : midOf {X = ℕ} 0 (n - 0) (replicate 20 255) ≡ replicate n 255 = rw sub-zero (take-replicate {X = ℕ} n 20 255 (omega arith)) in
     let led : Wrote 0 (replicate n 255) out (c .put-end .last .out) (c .put-end .result) = record { holds = rw (← p) (c .put-end .ensures .after); ends = rw (← p) (c .put-end .ensures .next) } in
-    record
-    { fills = made-fills q (c .match-address .start) out (c .put-end .last .out) (c .put-frame .last .out) (c .put-end .result) (c .put-frame .result) f (w .1) room led (c .put-frame .ensures .after) (c .put-frame .ensures .next)
-    ; back = made-back q (c .match-address .start) out (c .put-end .last .out) (c .put-frame .last .out) (c .put-end .result) (c .put-frame .result) f (w .1) room led (c .put-frame .ensures .after) (c .put-frame .ensures .next)
+    record {
+      fills = made-fills q (c .match-address .start) out (c .put-end .last .out) (c .put-frame .last .out) (c .put-end .result) (c .put-frame .result) f (w .1) room led (c .put-frame .ensures .after) (c .put-frame .ensures .next);
+      back = made-back q (c .match-address .start) out (c .put-end .last .out) (c .put-frame .last .out) (c .put-end .result) (c .put-frame .result) f (w .1) room led (c .put-frame .ensures .after) (c .put-frame .ensures .next);
     }

@@ -24,8 +24,8 @@ returns c =
     let w4 : Wrote at bare out (c .put-end-4 .last .out) (c .put-end-4 .result) = rw (← append-assoc (start ++ a) head d) (wrote-more d w3 (omega (arith, c .pre)) (c .put-end-4 .ensures .after) (c .put-end-4 .ensures .next)) in
     let room : at + length bare ≤ length out = omega (arith, c .pre, length-append (start ++ a) (c .args .command ∷ length d ∷ d)) in
     let n : c .put-end-4 .result - at ≡ length bare = omega (arith, w4 .ends) in
-    let check : c .check-check .result ≡ checkOf bare = 
-      let part : take (c .put-end-4 .result - at) (drop at (c .put-end-4 .last .out)) ≡ bare = rw (n, w4 .holds) (placed-part at bare out room) in
-      c .check-check .ensures ∙ ap checkOf part in
+    let check : c .check-check .result ≡ checkOf bare =
+    let part : take (c .put-end-4 .result - at) (drop at (c .put-end-4 .last .out)) ≡ bare = rw (n, w4 .holds) (placed-part at bare out room) in
+    c .check-check .ensures ∙ ap checkOf part in
     let w5 = wrote-more (checkOf bare ∷ []) w4 room (rw (← check) (c .put .ensures .after)) (c .put .ensures .next) in
     record { next = w5 .ends; after = w5 .holds }
