@@ -7,33 +7,18 @@ import sys
 
 sys.dont_write_bytecode = True  # leaves no cache folder in the repository
 
+import expectation
 import frames
+import selftest_patterns
+import selftest_rack
+import selftest_racktable
 import text
 from chance import Chance
-from refusal import Refused
+from expectation import code_of, expect
 from table import answer, bytes_of
 from vectors import operations
 
 ROUNDS = 2000
-
-checks = 0
-
-
-def expect(what, found, wanted):
-    global checks
-    checks += 1
-    if found != wanted:
-        print(f"failed: {what}\n  found  {found!r}\n  wanted {wanted!r}")
-        sys.exit(1)
-
-
-def code_of(call, *arguments):
-    """The code the call is refused with; None where it is not refused."""
-    try:
-        call(*arguments)
-    except Refused as refused:
-        return refused.code
-    return None
 
 
 def by_hand():
@@ -201,7 +186,10 @@ def main():
     maker_bounds()
     reader_bounds()
     table_covers()
-    print(f"{checks} checks passed")
+    selftest_patterns.run()
+    selftest_rack.run()
+    selftest_racktable.run()
+    print(f"{expectation.checks} checks passed")
 
 
 if __name__ == "__main__":

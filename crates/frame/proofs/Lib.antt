@@ -1,5 +1,4 @@
 pub mod Frames
 pub mod Transmissions
 mod Meanings
-mod Placing
 mod Making

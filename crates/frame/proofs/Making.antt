@@ -8,11 +8,11 @@ use native.Mathlib.Omega.{arith}
 use lib.ListN.{length, take, drop, replicate, length-append}
 use Rattle.std.specs.declared.result.Result.the-variants.{Ok}
 use Rattle.std.proofs.shelf.Lists.{take-at}
-use Rattle.refusals.specs.Filling.{Fills}
+use Rattle.refusals.specs.Filling.{Fills, placed}
 use Rattle.refusals.proofs.Filling.{fills-done}
-use Rattle.frame.specs.Making.{request?, requestStart, frameBytes, transmission, placed, ReadsBack}
+use Rattle.frame.specs.Making.{request?, requestStart, frameBytes, transmission, ReadsBack}
 use Rattle.frame.specs.Transmissions.{Request}
-use Rattle.frame.proofs.Placing.{Wrote, wrote-more}
+use Rattle.refusals.proofs.Placing.{Wrote, wrote-more}
 use Rattle.frame.proofs.Transmissions.{transmits, complete}
 
 module _ (q : Request) (start : ℕ) (before now after : List ℕ) (mid end : ℕ)

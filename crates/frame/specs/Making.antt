@@ -2,9 +2,9 @@
 use mathlib.Core.Bool.{Bool, true, cond, _&&_, _||_}
 use mathlib.Core.List.{List, [], _∷_, _++_}
 use mathlib.Core.Path.{_≡_}
-use Prim.Native.Nat.{ℕ, _+_}
+use Prim.Native.Nat.{ℕ}
 use lib.Dec.{leb, eqb}
-use lib.ListN.{length, take, drop, replicate}
+use lib.ListN.{length, replicate}
 use Rattle.frame.specs.Check.{checkOf}
 use Rattle.frame.specs.Transmissions.{Request, Transmits, readRequest}
 use Rattle.std.specs.declared.result.Result.the-variants.{Ok}
@@ -32,10 +32,6 @@ frameBytes start address command content = checked (start ∷ address ++ command
 -- the transmission of a request
 abbrev pub transmission : Request → List ℕ
 transmission q = replicate (q .preambles) 0xff ++ frameBytes (requestStart (length (q .address))) (q .address) (q .command) (q .«data»)
-
--- a buffer with these bytes written from a place on
-abbrev pub placed : ℕ → List ℕ → List ℕ → List ℕ
-placed at bytes buffer = take at buffer ++ bytes ++ drop (at + length bytes) buffer
 
 -- the request is in form and is sent as just these bytes
 pub record MadeAgain (bytes : List ℕ) (q : Request) : Type 0 where

@@ -104,8 +104,8 @@ mod tests {
     use refusals::Refusal;
     use refusals::RefusalDebug;
     use refusals::RefusalPartialEq;
-    use std::test::*;
     use std::test::check;
+    use std::test::*;
 
     #[test]
     fn short_request_both_ways() -> Result<(), Fail> {

@@ -1,14 +1,18 @@
--- What a call does that fills the front of a buffer which its caller lends.
+-- What a call does that writes into a buffer.
 use mathlib.Core.Bool.{Bool, cond}
 use mathlib.Core.Path.{_≡_}
 use mathlib.Core.List.{List, _++_}
-use Prim.Native.Nat.{ℕ}
+use Prim.Native.Nat.{ℕ, _+_}
 use lib.Dec.{leb}
-use lib.ListN.{length, drop}
+use lib.ListN.{length, take, drop}
 use Rattle.std.specs.declared.result.Result.{Result}
 use Rattle.std.specs.declared.result.Result.the-variants.{Ok, Err}
 
--- The answer: 110 where the input is out of form, then 102 where the buffer is too short, else how many bytes were written.
+-- A buffer with these bytes written from a place on.
+abbrev pub placed : ℕ → List ℕ → List ℕ → List ℕ
+placed at bytes buffer = take at buffer ++ bytes ++ drop (at + length bytes) buffer
+
+-- A call that fills the front of a buffer which its caller lends. Its answer: 110 where the input is out of form, then 102 where the buffer is too short, else how many bytes were written.
 abbrev pub fillAnswer : Bool → List ℕ → List ℕ → Result ℕ ℕ
 fillAnswer formed bytes buffer =
     cond formed (cond (leb (length bytes) (length buffer)) (Ok (length bytes)) (Err 102)) (Err 110)

@@ -8,8 +8,16 @@ use std::fmt;
 // Why a call was refused.
 #[derive(Clone, Copy, PartialEq, Eq, Debug)]
 pub enum Refusal {
+    // There is no such channel.
+    NoChannel,
     // The lent buffer is shorter than what would be written.
     ShortBuffer,
+    // A record of a file has a field out of range.
+    BadRecord,
+    // A file is not of 1 to 15 records.
+    NumberOfRecords,
+    // A flow or a temperature is not finite.
+    Reading,
     // The input is not in the form that the call asks for.
     OutOfForm,
 }
@@ -20,7 +28,11 @@ impl Refusal {
         ensures { λ r. ⌜ r ≡ numberOf self ⌝ }
     {
         match self {
+            Refusal::NoChannel => 101,
             Refusal::ShortBuffer => 102,
+            Refusal::BadRecord => 103,
+            Refusal::NumberOfRecords => 104,
+            Refusal::Reading => 108,
             Refusal::OutOfForm => 110,
         }
     }
@@ -29,7 +41,11 @@ impl Refusal {
         ensures { λ r. ⌜ now r ≡ wordsOf self ⌝ }
     {
         match self {
+            Refusal::NoChannel => "no channel",
             Refusal::ShortBuffer => "short buffer",
+            Refusal::BadRecord => "bad record",
+            Refusal::NumberOfRecords => "number of records",
+            Refusal::Reading => "reading",
             Refusal::OutOfForm => "out of form",
         }
     }

@@ -13,7 +13,7 @@ use Rattle.std.proofs.shelf.Ways.{tells}
 use Rattle.refusals.proofs.Filling.{fills-short}
 use Rattle.frame.specs.Making.{request?, requestStart, frameBytes, transmission, asked}
 use Rattle.frame.specs.Transmissions.{Request}
-use Rattle.frame.proofs.Placing.{Wrote}
+use Rattle.refusals.proofs.Placing.{Wrote}
 use Rattle.frame.proofs.Making.{made-fills, made-back}
 use Rattle.frame.proofs.Transmissions.{length-transmission}
 use Rattle.frame.proofs.maker.make_request.Needs as need

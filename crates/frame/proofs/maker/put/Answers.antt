@@ -1,5 +1,5 @@
 use borrow.Author.Needs.{needs}
-use Rattle.frame.proofs.Placing.{placed-by-copy}
+use Rattle.refusals.proofs.Placing.{placed-by-copy}
 use Rattle.frame.proofs.maker.put.Needs as need
 
 pub returns : need.returns

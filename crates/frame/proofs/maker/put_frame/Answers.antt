@@ -4,7 +4,7 @@ use mathlib.Core.Path.{_≡_, sym, ap, subst, _∙_}
 use Prim.Native.Nat.{ℕ, _+_, _-_, _≤_}
 use lib.ListN.{length, take, drop, length-append}
 use Rattle.frame.specs.Check.{checkOf}
-use Rattle.frame.proofs.Placing.{Wrote, wrote-more, placed-part}
+use Rattle.refusals.proofs.Placing.{Wrote, wrote-more, placed-part}
 use Rattle.frame.proofs.maker.put_frame.Needs as need
 
 pub returns : need.returns

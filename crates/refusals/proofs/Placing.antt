@@ -7,7 +7,7 @@ use native.Mathlib.Omega.{arith}
 use borrow.Rule.Slice.PartMut.{putMid}
 use lib.ListN.{length, take, drop, length-append}
 use Rattle.std.proofs.shelf.Lists.{take-at, drop-at, drop-drop, length-take-le, drop-append-le}
-use Rattle.frame.specs.Making.{placed}
+use Rattle.refusals.specs.Filling.{placed}
 
 -- what a copy into a part of the buffer leaves
 pub placed-by-copy : (at : ℕ) (buffer part : List ℕ) {now : List ℕ} → now ≡ part → putMid at (at + length part - at) buffer now ≡ placed at part buffer

@@ -1,0 +1,16 @@
+use mathlib.Core.Path.{_≡_, ap, sym, _∙_}
+use Rattle.std.proofs.shelf.Results.{err-from-errBy}
+use Rattle.rack.specs.Ceilings.{loweredFields}
+use Rattle.rack.proofs.Ceilings.{onOk, fields-lowered}
+use Rattle.rack.proofs.ceiling.CeilingRack.fields.Needs as need
+
+pub returns-in-Break-fields : need.returns-in-Break-fields
+returns-in-Break-fields g c =
+    let p = err-from-errBy (c .from-residual .result) (c .from-residual .ensures .1) in
+    let percent = c .args .self .now .percent in
+    rw (p .1, p .2) (ap (onOk (loweredFields percent)) (c .in-Break-fields .ensures tt) ∙ fields-lowered percent (g .R·Rack .records (c .args .self .now .below)) (c .args .channel))
+
+pub returns : need.returns
+returns g c =
+    let percent = c .args .self .now .percent in
+    rw (c .min .ensures) (ap (onOk (loweredFields percent)) (c .in-Continue-fields .ensures tt) ∙ fields-lowered percent (g .R·Rack .records (c .args .self .now .below)) (c .args .channel))

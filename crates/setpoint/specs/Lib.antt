@@ -1,0 +1,10 @@
+pub mod Value
+pub mod Decoding
+pub mod Load
+pub mod LoadLaw
+pub mod Setpoints
+pub mod Refusals
+pub mod Lawful
+pub mod LawfulLaws
+pub mod Share
+pub mod Units
