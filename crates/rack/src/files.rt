@@ -10,9 +10,13 @@ ghost use Rattle.rack.specs.declared.files.FileFault.the-variants.{Record as B
 use record::RECORD_LENGTH;
 use record::RecordFault;
 use record::RecordFaultDebug;
+use record::RecordFaultDisplay;
 use record::RecordFaultPartialEq;
 use record::fault_in;
 use refusals::Refusal;
+use refusals::RefusalDisplay;
+use std::error::Error;
+use std::fmt;
 
 // A record of a file with a field out of range: which record, and which field.
 #[derive(Clone, Copy, PartialEq, Debug)]
@@ -40,6 +44,22 @@ impl FileFault {
         }
     }
 }
+
+pub impl fmt::Display for FileFault as FileFaultDisplay {
+    fn fmt<W: fmt::Write>(&self, f: &mut fmt::Formatter<W>) -> fmt::Result {
+        let refusal = self.refusal();
+        match self {
+            FileFault::Count => write!(f, "{refusal}"),
+            FileFault::Record(error) => {
+                let number = error.number;
+                let fault = error.fault;
+                write!(f, "{refusal} {number}: {fault}")
+            }
+        }
+    }
+}
+
+pub impl Error for FileFault as FileFaultError {}
 
 pub impl From<RecordError> for FileFault as FileFaultFromRecord {
     ghost converts = { λ e r. r ≡ Bad e };

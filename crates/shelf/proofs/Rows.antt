@@ -1,13 +1,12 @@
 -- The records of a shelf by their rows.
-use mathlib.Core.Bool.{Bool, true, false, cond, _&&_}
+use mathlib.Core.Bool.{true, _&&_}
 use mathlib.Core.List.{List, [], _∷_, map}
-use mathlib.Core.Path.{_≡_, refl, sym, ap, subst, _∙_}
+use mathlib.Core.Path.{_≡_, refl, sym, ap, _∙_}
 use Prim.Native.Nat.{ℕ, zero, suc, min, _≤_, _<_}
 use native.Mathlib.Nat.{le-of-suc-le-suc}
 use native.Mathlib.Omega.{arith}
 use lib.Dec.{leb, ltb}
 use lib.ListN.{length, getD, set, take, length-map}
-use Rattle.std.specs.declared.option.Option.{Option}
 use Rattle.std.specs.declared.option.Option.the-variants.{Some, None}
 use Rattle.std.specs.shelf.Lists.{All}
 use Rattle.std.proofs.shelf.Elements.{all-set}
@@ -68,16 +67,3 @@ set-row rows count c row r e = ap (map decoded) (take-set count rows c row) ∙ 
 
 pub lawful-set : (records : List Record) (c : ℕ) (r : Record) → allLawful? records ≡ true → Lawful r → allLawful? (set records c r) ≡ true
 lawful-set records c r h k = lawful-all (set records c r) (all-set Lawful records c r k (all-lawful records h))
-
-record-lawful : (records : List Record) (n : ℕ) (r : Record) → All Lawful records → recordAt records n ≡ Some r → Lawful r
-record-lawful [] n r h e = let z : _≡_ {A = ℕ} 0 1 = cc in absurd (omega arith)
-record-lawful (x ∷ records) zero r h e = let same : x ≡ r = cc in subst Lawful same (h .0)
-record-lawful (x ∷ records) (suc n) r h e = record-lawful records n r (h .1) e
-
-from-cond : (b : Bool) (o : Option Record) (r : Record) → cond b o None ≡ Some r → o ≡ Some r
-from-cond true o r e = e
-from-cond false o r e = let z : _≡_ {A = ℕ} 0 1 = cc in absurd (omega arith)
-
--- the record of a channel is lawful
-pub channel-lawful : (records : List Record) (c : ℕ) (r : Record) → allLawful? records ≡ true → Some r ≡ channelOf records c → Lawful r
-channel-lawful records c r h e = record-lawful records c r (all-lawful records h) (from-cond (ltb c (told records) && leb c 14) (recordAt records c) r (sym e))

@@ -1,11 +1,15 @@
-// A master looks for the channel with a tag: from the tag's letters to the bytes of its question, and back.
+// One exchange, step by step: a master asks for the channel with a tag, and the rack of the panel is laid out.
+mod channels;
+mod digits;
+
+use digits::Hex;
+use digits::HexDisplay;
 use frame::Address;
 use frame::Master;
 use refusals::RefusalDebug;
 use refusals::RefusalDisplay;
 use refusals::RefusalError;
 use std::error::AnyError;
-use std::fmt;
 use std::io;
 
 const TAG: [u8; 8] = *b"MFC-1234";
@@ -17,22 +21,6 @@ const EVERY_CHANNEL: [u8; 5] = [0x80, 0, 0, 0, 0];
 const TAG_QUESTION: u8 = 11;
 
 const PREAMBLES: usize = 5;
-
-// Bytes as they are printed: two hexadecimal digits each, with a space between.
-#[derive(Drop)]
-struct Hex<'a>(&'a [u8]);
-
-impl fmt::Display for Hex<'_> as HexDisplay {
-    fn fmt<W: fmt::Write>(&self, f: &mut fmt::Formatter<W>) -> fmt::Result {
-        for (i, byte) in self.0.iter().enumerate() {
-            if i > 0 {
-                f.write_str(" ")?;
-            }
-            write!(f, "{byte:02X}")?;
-        }
-        Ok(())
-    }
-}
 
 fn main(rt: LibcRuntime) -> Result<(), AnyError> {
     rt.report(run(&rt))
@@ -58,7 +46,8 @@ fn run(rt: &LibcRuntime) -> Result<(), AnyError> {
     let mut letters = [0; 8];
     text::unpack(question.data, &mut letters)?;
     show_letters(rt, &letters)?;
-    Ok(())
+
+    channels::show_rack(rt)
 }
 
 fn show_tag(rt: &LibcRuntime, packed: &[u8]) -> io::Result<()> {

@@ -5,9 +5,9 @@ use Rattle.std.proofs.shelf.Tests.{true≢false}
 use Rattle.record.specs.Lawful.{Lawful}
 use Rattle.rack.specs.Changes.{answerOf, written}
 use Rattle.rack.specs.Meaning.{answered, writtenAt}
-use Rattle.rack.proofs.Meaning.{accepted-after}
+use Rattle.rack.proofs.Meaning.{accepted-after, channel-lawful}
 use Rattle.shelf.specs.Rows.{recordsIn}
-use Rattle.shelf.proofs.Rows.{channel-lawful, set-row, lawful-set}
+use Rattle.shelf.proofs.Rows.{all-lawful, set-row, lawful-set}
 use Rattle.shelf.proofs.shelf_rack.ShelfRack.write.Needs as need
 
 pub ghost-self : need.ghost-self
@@ -15,7 +15,7 @@ ghost-self c =
     let s = c .args .self .now in
     let records = recordsIn (s .count) (s .rows) in
     let r = c .apply .last .«record» in
-    let lawful : Lawful r = c .apply .ensures .lawful (channel-lawful records (c .args .channel) (c .in-Some .«record») (s .lawful) (c .in-Some .ensures tt)) in
+    let lawful : Lawful r = c .apply .ensures .lawful (channel-lawful records (c .args .channel) (c .in-Some .«record») (all-lawful records (s .lawful)) (sym (c .in-Some .ensures tt))) in
     let l = length-set (s .rows) (c .args .channel) (c .encode .result) in
     let few = s .few in
     let room = s .room in
@@ -27,7 +27,7 @@ returns c =
     let records = recordsIn (s .count) (s .rows) in
     let old = c .in-Some .«record» in
     let r = c .apply .last .«record» in
-    let lawful : Lawful r = c .apply .ensures .lawful (channel-lawful records (c .args .channel) old (s .lawful) (c .in-Some .ensures tt)) in
+    let lawful : Lawful r = c .apply .ensures .lawful (channel-lawful records (c .args .channel) old (all-lawful records (s .lawful)) (sym (c .in-Some .ensures tt))) in
     let w : written (c .args .change) old ≡ writtenAt records (c .args .channel) (c .args .change) = ap (answered (written (c .args .change))) (c .in-Some .ensures tt) in
     let a = c .in-Continue-apply .ensures tt .answer in
     record {
