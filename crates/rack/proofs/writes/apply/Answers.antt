@@ -4,7 +4,6 @@ use mathlib.Core.Path.{_≡_, sym, ap}
 use Rattle.std.specs.Results.{isOk}
 use Rattle.setpoint.specs.Refusals.{admittedUnder}
 use Rattle.setpoint.specs.Value.{valueOf}
-use Rattle.record.specs.Lawful.{LawfulSetpoint}
 use Rattle.rack.proofs.Lawful.{stored-lawful}
 use Rattle.rack.proofs.writes.apply.Needs as need
 
@@ -17,6 +16,6 @@ returns-in-Continue-admitted c =
       answer = search needs;
       after = search needs;
       lawful = λ h.
-          let s : LawfulSetpoint (c .stored-record .result) = (c .stored-record .ensures .bound, rw (c .stored-record .ensures .value) (stored-lawful p ceiling (h .fields .ceiling) ok)) in
+          let s = stored-lawful p ceiling (h .fields .ceiling) ok in
           search needs;
     }

@@ -1,5 +1,7 @@
+use borrow.Author.Needs.{needs}
 use mathlib.Core.Path.{_≡_, ap, sym, _∙_}
 use Rattle.std.proofs.shelf.Results.{err-from-errBy}
+use Rattle.std.specs.declared.result.Result.the-variants.{Ok}
 use Rattle.rack.specs.Ceilings.{loweredFields}
 use Rattle.rack.proofs.Ceilings.{onOk, fields-lowered}
 use Rattle.rack.proofs.ceiling.CeilingRack.fields.Needs as need
@@ -13,4 +15,5 @@ returns-in-Break-fields g c =
 pub returns : need.returns
 returns g c =
     let percent = c .args .self .now .percent in
-    rw (c .min .ensures) (ap (onOk (loweredFields percent)) (c .in-Continue-fields .ensures tt) ∙ fields-lowered percent (g .R·Rack .records (c .args .self .now .below)) (c .args .channel))
+    let f = c .in-Continue-fields .fields in
+    _∙_ {b = Ok (loweredFields percent f)} (search needs) (ap (onOk (loweredFields percent)) (c .in-Continue-fields .ensures tt) ∙ fields-lowered percent (g .R·Rack .records (c .args .self .now .below)) (c .args .channel))
