@@ -48,7 +48,7 @@ rows =
     ∷ sends (asked 5 (0x80 ∷ 0 ∷ 0 ∷ 0 ∷ 0 ∷ []) 11 tag) (0xff ∷ 0xff ∷ 0xff ∷ 0xff ∷ 0xff ∷ 0x82 ∷ 0x80 ∷ 0 ∷ 0 ∷ 0 ∷ 0 ∷ 0x0b ∷ 0x06 ∷ 0x34 ∷ 0x60 ∷ 0xed ∷ 0xc7 ∷ 0x2c ∷ 0xf4 ∷ 0xa9 ∷ [])
     -- the question for the final assembly number, at polling address 1
     ∷ sends (asked 2 (0x81 ∷ []) 16 []) (0xff ∷ 0xff ∷ 0x02 ∷ 0x81 ∷ 0x10 ∷ 0 ∷ 0x93 ∷ [])
-    -- the question for the unique identifier, at device type 46, identification number 1
+    -- the question for the unique identifier, at device type 70, identification number 1
     ∷ sends (asked 2 (0x8a ∷ 0x46 ∷ 0 ∷ 0 ∷ 1 ∷ []) 0 []) (0xff ∷ 0xff ∷ 0x82 ∷ 0x8a ∷ 0x46 ∷ 0 ∷ 0 ∷ 1 ∷ 0 ∷ 0 ∷ 0x4f ∷ [])
     -- loads: 25 percent, a tenth of a percent, the least percentage above 0, 100 percent
     ∷ weighs 0x41c8_0000 25600

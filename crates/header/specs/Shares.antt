@@ -36,6 +36,10 @@ totalShare (r ∷ records) = fieldsShare (r .fields) + totalShare records
 abbrev pub rackShare : List Record → Result ℕ ℕ
 rackShare records = cond (leb (length records) 15) (Ok (totalShare records)) (Err 104)
 
--- shares fit while their sum is at most the supply, in mL/min, times 102,400: the load of 100 percent
+-- the most that shares may sum up to: the supply, in mL/min, times 102,400, the load of 100 percent
+abbrev pub capacityOf : ℕ → ℕ
+capacityOf supply = supply * 102400
+
+-- shares fit while their sum is at most the supply's capacity
 abbrev pub fits? : ℕ → ℕ → Bool
-fits? supply total = leb total (supply * 102400)
+fits? supply total = leb total (capacityOf supply)

@@ -2,7 +2,7 @@
 ghost use mathlib.Core.Path.{_≡_};
 ghost use Prim.Native.Nat.{_≤_};
 ghost use Rattle.refusals.specs.Refusals.{numbered};
-ghost use Rattle.header.specs.Shares.{shareAt, rackShare, fits?};
+ghost use Rattle.header.specs.Shares.{shareAt, rackShare, capacityOf, fits?};
 use rack::Rack;
 use refusals::Refusal;
 
@@ -41,9 +41,16 @@ pub fn channel_share<R: Rack>(rack: &R, channel: u8) -> u64
     }
 }
 
+// The most that shares may sum up to under a supply in mL/min.
+pub fn capacity(supply: u32) -> u64
+    ensures { λ r. ⌜ r ≡ capacityOf supply ⌝ }
+{
+    u64::from(supply) * FULL_LOAD
+}
+
 // Whether shares of this sum fit a supply in mL/min.
 pub fn fits(supply: u32, total: u64) -> bool
     ensures { λ r. ⌜ r ≡ fits? supply total ⌝ }
 {
-    total <= u64::from(supply) * FULL_LOAD
+    total <= capacity(supply)
 }

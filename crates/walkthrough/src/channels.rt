@@ -20,7 +20,7 @@ const RACK_FILE: &str = "rack.rec";
 const SUPPLY: u32 = 600_000;
 
 // Loads the panel's records and prints its channels and what they draw together.
-pub fn show_rack(rt: &LibcRuntime) -> Result<(), AnyError> {
+pub(crate) fn show_rack(rt: &LibcRuntime) -> Result<(), AnyError> {
     let file = fs::read(rt, RACK_FILE)?;
     let mut shelf = Shelf::blank();
     shelf.fill(file.as_slice())?;
@@ -73,7 +73,7 @@ fn show_channel(rt: &LibcRuntime, fields: Fields, share: u64) -> io::Result<()> 
 }
 
 fn show_header(rt: &LibcRuntime, total: u64) -> io::Result<()> {
-    let limit = u64::from(SUPPLY) * 102_400;
+    let capacity = header::capacity(SUPPLY);
     let verdict = if header::fits(SUPPLY, total) {
         "fit"
     } else {
@@ -81,7 +81,7 @@ fn show_header(rt: &LibcRuntime, total: u64) -> io::Result<()> {
     };
     println!(
         rt,
-        "\n6. The header: a supply of {SUPPLY} mL/min allows shares up to {limit}."
+        "\n6. The header: a supply of {SUPPLY} mL/min allows shares up to {capacity}."
     )?;
     println!(rt, "     the shares sum up to {total}: they {verdict}")
 }
