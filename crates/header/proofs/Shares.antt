@@ -1,19 +1,18 @@
 -- The shares of lawful records, and their sum channel by channel.
-use mathlib.Core.Bool.{Bool, true, false, cond}
-use mathlib.Core.List.{List, [], _∷_, _++_}
+use mathlib.Core.List.{List, [], _∷_}
 use mathlib.Core.Path.{_≡_, refl, sym, ap, _∙_}
-use Prim.Native.Nat.{ℕ, zero, suc, _+_, _*_, _^_, _≤_, _<_}
+use Prim.Native.Nat.{ℕ, zero, suc, _+_, _^_, _≤_}
 use native.Mathlib.Numerals.{add-one}
 use native.Mathlib.Omega.{arith}
-use lib.Dec.{leb, ltb}
+use lib.Dec.{leb}
 use lib.ListN.{length, take}
 use Rattle.std.specs.declared.option.Option.{Option}
 use Rattle.std.specs.declared.option.Option.the-variants.{Some, None}
-use Rattle.std.specs.declared.result.Result.the-variants.{Ok, Err}
+use Rattle.std.specs.declared.result.Result.the-variants.{Ok}
 use Rattle.std.proofs.shelf.Bits.{mul-le}
 use Rattle.std.proofs.shelf.Lists.{take-all}
 use Rattle.std.proofs.shelf.Tests.{and-parts, leb-true, le-leb, lt-ltb, cond-true}
-use Rattle.setpoint.specs.Load.{hasLoad, loadOf, fitting, fittingLoad}
+use Rattle.setpoint.specs.Load.{loadOf, fittingLoad}
 use Rattle.setpoint.specs.Share.{shareOf}
 use Rattle.setpoint.specs.Value.{valueOf}
 use Rattle.setpoint.proofs.Percents.{lawful-laws}

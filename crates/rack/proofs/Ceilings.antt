@@ -1,16 +1,15 @@
 -- A ceiling over a rack.
 use mathlib.Core.Bool.{Bool, true, false, cond, _&&_, not, _||_}
-use mathlib.Core.List.{List, [], _∷_, map}
-use mathlib.Core.Logic.{_⊎_, inl, inr}
+use mathlib.Core.List.{List, [], _∷_}
+use mathlib.Core.Logic.{inl, inr}
 use mathlib.Core.Path.{_≡_, refl, sym, ap, _∙_}
-use Prim.Native.Nat.{ℕ, zero, suc, min, _*_, _≤_, _<_}
+use Prim.Native.Nat.{ℕ, zero, suc, min, _*_, _≤_}
 use native.Mathlib.Omega.{arith}
 use lib.Dec.{leb, ltb}
 use lib.Ieee.{Float, isNan, lt}
-use lib.ListN.{length, set, length-map}
+use lib.ListN.{length-map}
 use Rattle.std.specs.Floats.{finite}
 use Rattle.std.specs.Options.{mapped}
-use Rattle.std.specs.Results.{isOk}
 use Rattle.std.specs.declared.option.Option.{Option}
 use Rattle.std.specs.declared.option.Option.the-variants.{Some, None}
 use Rattle.std.specs.declared.result.Result.{Result}
@@ -31,7 +30,7 @@ use Rattle.record.specs.Readings.{isFinite}
 use Rattle.rack.specs.declared.changes.Change.{Change}
 use Rattle.rack.specs.declared.changes.Change.the-variants.{PollingAddress, Preambles, AssemblyNumber, Changed, Key, Sample, Text, Setpoint}
 use Rattle.rack.specs.Ceilings.{loweredFields, lowered, loweredAll}
-use Rattle.rack.specs.Changes.{textRun?, withSetpoint, written, answerOf}
+use Rattle.rack.specs.Changes.{textRun?, written, answerOf}
 use Rattle.rack.specs.Meaning.{told, recordAt, channelOf, answered, asked, writtenAt, recordsAfter}
 
 -- an answer with its value changed

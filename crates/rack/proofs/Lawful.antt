@@ -1,8 +1,8 @@
 -- The test of the law tells the law, and an admitted setpoint keeps it.
-use mathlib.Core.Bool.{Bool, true, false, cond, _&&_}
-use mathlib.Core.Logic.{_⊎_, inl, inr}
-use mathlib.Core.Path.{_≡_, refl, sym, ap, subst, _∙_}
-use Prim.Native.Nat.{ℕ, _+_, _^_, _≤_, _<_}
+use mathlib.Core.Bool.{Bool, true, _&&_}
+use mathlib.Core.Logic.{inl, inr}
+use mathlib.Core.Path.{_≡_, refl}
+use Prim.Native.Nat.{ℕ, _^_, _≤_, _<_}
 use native.Mathlib.Omega.{arith}
 use lib.Ieee
 use lib.Dec.{leb, ltb, eqb}
@@ -20,7 +20,7 @@ use Rattle.setpoint.specs.Value.{valueOf}
 use Rattle.setpoint.proofs.Percents.{lawful-laws}
 use Rattle.record.specs.declared.Fields.{Fields}
 use Rattle.record.specs.declared.Record.{Record}
-use Rattle.record.specs.Lawful.{Lawful, LawfulFields, LawfulSetpoint, inRange}
+use Rattle.record.specs.Lawful.{Lawful, LawfulFields, inRange}
 use Rattle.record.specs.Readings.{isFinite, FiniteReading}
 use Rattle.rack.specs.Changes.{storedPattern}
 use Rattle.rack.specs.Lawful.{lawful?}

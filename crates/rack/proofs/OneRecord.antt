@@ -1,14 +1,14 @@
 -- Record files.
 use mathlib.Core.List.{List, [], _∷_, map}
-use mathlib.Core.Path.{_≡_, refl, sym, ap, _∙_}
-use Prim.Native.Nat.{ℕ, _/_, _%_}
+use mathlib.Core.Path.{_≡_, refl, ap}
+use Prim.Native.Nat.{ℕ, _/_}
 use native.Mathlib.Omega.{arith}
-use lib.ListN.{length, take}
+use lib.ListN.{length}
 use Rattle.std.specs.declared.option.Option.the-variants.{None}
 use Rattle.std.proofs.shelf.Lists.{take-all}
 use Rattle.record.specs.Faults.{faultOf}
 use Rattle.record.specs.Layout.{decoded}
-use Rattle.rack.specs.Files.{faultIn, firstBad, rowsOf, orFault, fileAnswer, fileRecords}
+use Rattle.rack.specs.Files.{faultIn, rowsOf, orFault, fileAnswer, fileRecords}
 
 module _ (file : List ℕ) (one : length file ≡ 80) where
   one-row : rowsOf (length file / 80) file ≡ file ∷ []

@@ -1,5 +1,5 @@
 -- Two racks side by side.
-use mathlib.Core.Bool.{Bool, true, false, cond, _&&_}
+use mathlib.Core.Bool.{Bool, true, false, cond}
 use mathlib.Core.List.{List, [], _∷_, _++_}
 use mathlib.Core.Logic.{_⊎_, inl, inr}
 use mathlib.Core.Path.{_≡_, refl, sym, ap, _∙_}
@@ -8,12 +8,11 @@ use native.Mathlib.Nat.{le-of-suc-le-suc}
 use native.Mathlib.Omega.{arith}
 use lib.Dec.{leb, ltb}
 use lib.ListN.{length, length-append}
-use Rattle.std.specs.declared.option.Option.{Option}
-use Rattle.std.specs.declared.option.Option.the-variants.{Some, None}
+use Rattle.std.specs.declared.option.Option.the-variants.{None}
 use Rattle.std.specs.declared.result.Result.{Result}
 use Rattle.std.specs.declared.result.Result.the-variants.{Ok, Err}
 use Rattle.std.proofs.shelf.Lists.{set-append-left, set-append-right}
-use Rattle.std.proofs.shelf.Tests.{cases-bool, leb-true, ltb-true, ltb-false, lt-ltb, le-leb, le-ltb, and-from, and-left, and-right, cond-true, cond-false, cases-lt}
+use Rattle.std.proofs.shelf.Tests.{leb-true, ltb-true, ltb-false, lt-ltb, le-leb, le-ltb, and-from, and-left, cond-true, cond-false, cases-lt}
 use Rattle.std.proofs.shelf.Ways.{tells}
 use Rattle.record.specs.declared.Record.{Record}
 use Rattle.rack.specs.declared.side_by_side.Side.{Side}

@@ -1,7 +1,6 @@
 -- A rack by the list of records that it means, numbered from 0.
-use mathlib.Core.Bool.{Bool, true, cond, _&&_}
+use mathlib.Core.Bool.{cond, _&&_}
 use mathlib.Core.List.{List, [], _∷_}
-use mathlib.Core.Path.{_≡_}
 use Prim.Native.Nat.{ℕ, zero, suc, min}
 use lib.Dec.{leb, ltb}
 use lib.ListN.{length, getD, set}

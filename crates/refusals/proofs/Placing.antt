@@ -1,12 +1,11 @@
 -- Bytes written into a buffer one part after another.
-use mathlib.Core.List.{List, [], _∷_, _++_, append-assoc}
+use mathlib.Core.List.{List, _++_, append-assoc}
 use mathlib.Core.Path.{_≡_, refl, sym, ap, _∙_}
 use Prim.Native.Nat.{ℕ, _+_, _-_, _≤_}
-use native.Mathlib.Nat.{add-assoc}
 use native.Mathlib.Omega.{arith}
 use borrow.Rule.Slice.PartMut.{putMid}
 use lib.ListN.{length, take, drop, length-append}
-use Rattle.std.proofs.shelf.Lists.{take-at, drop-at, drop-drop, length-take-le, drop-append-le}
+use Rattle.std.proofs.shelf.Lists.{take-at, drop-at, drop-drop, length-take-le}
 use Rattle.refusals.specs.Filling.{placed}
 
 -- what a copy into a part of the buffer leaves

@@ -1,15 +1,15 @@
 -- A file worked through record by record.
-use mathlib.Core.Bool.{Bool, true, _&&_}
+use mathlib.Core.Bool.{true, _&&_}
 use mathlib.Core.List.{List, [], _∷_, _++_, map, append-assoc}
 use mathlib.Core.Path.{_≡_, refl, sym, ap, _∙_}
 use Prim.Native.Nat.{ℕ, suc, _+_, _-_, _*_, _/_, _%_, _≤_, _<_}
 use native.Mathlib.Numerals.{add-one}
 use native.Mathlib.Omega.{arith}
 use lib.Dec.{leb, eqb}
-use lib.ListN.{length, set, take, drop, length-set}
+use lib.ListN.{length, set, take, drop}
 use Rattle.std.specs.declared.option.Option.{Option}
 use Rattle.std.specs.declared.option.Option.the-variants.{Some, None}
-use Rattle.std.specs.declared.result.Result.the-variants.{Ok, Err}
+use Rattle.std.specs.declared.result.Result.the-variants.{Err}
 use Rattle.std.proofs.shelf.Elements.{all-push}
 use Rattle.std.proofs.shelf.Lists.{drop-drop, take-more-set, map-push}
 use Rattle.std.proofs.shelf.Ways.{tells}
@@ -19,7 +19,7 @@ use Rattle.record.specs.Layout.{decoded}
 use Rattle.record.specs.declared.faults.RecordFault.{RecordFault}
 use Rattle.rack.specs.declared.files.RecordError.{RecordError}
 use Rattle.rack.specs.declared.files.FileFault.the-variants.{Record as Bad}
-use Rattle.rack.specs.Files.{rowsOf, faultIn, firstBad, orFault, fileAnswer}
+use Rattle.rack.specs.Files.{rowsOf, faultIn, firstBad, fileAnswer}
 use Rattle.shelf.specs.Rows.{allLawful?}
 use Rattle.shelf.proofs.Rows.{all-lawful, lawful-all}
 

@@ -1,6 +1,6 @@
 // Packed text: four letters, 20 to 5F hexadecimal, in three bytes, six bits each, the first letter highest.
 ghost use mathlib.Core.Path.{_≡_};
-ghost use Prim.Native.Nat.{ℕ, _+_, _-_, _*_, _/_, _%_, _^_, _<_, _≤_};
+ghost use Prim.Native.Nat.{_+_, _-_, _*_, _/_, _%_, _<_};
 ghost use lib.ListN.{length, take};
 ghost use Rattle.std.specs.Vec.{made};
 ghost use Rattle.refusals.specs.Refusals.{numbered};

@@ -1,5 +1,5 @@
 use native.Mathlib.Omega.{arith}
-use mathlib.Core.Path.{_≡_, sym, ap, _∙_}
+use mathlib.Core.Path.{_≡_, ap, _∙_}
 use Rattle.std.specs.declared.result.Result.the-variants.{Ok}
 use Rattle.rack.specs.Meaning.{told}
 use Rattle.header.proofs.Shares.{total-next, total-all}

@@ -3,15 +3,14 @@ use borrow.Rule.Slice.PartMut.{midOf}
 use native.Mathlib.Nat.{sub-zero}
 use native.Mathlib.Omega.{arith}
 use mathlib.Core.Bool.{true}
-use mathlib.Core.List.{List, [], _∷_, _++_}
-use mathlib.Core.Logic.{_⊎_, inl, inr}
-use mathlib.Core.Path.{_≡_, refl, sym, ap, _∙_}
-use Prim.Native.Nat.{ℕ, _+_, _-_, _≤_}
-use lib.ListN.{length, take, replicate, length-append, length-replicate}
-use Rattle.std.proofs.shelf.Lists.{take-replicate, take-at}
+use mathlib.Core.Logic.{_⊎_}
+use mathlib.Core.Path.{_≡_}
+use Prim.Native.Nat.{ℕ, _-_, _≤_}
+use lib.ListN.{length, replicate}
+use Rattle.std.proofs.shelf.Lists.{take-replicate}
 use Rattle.std.proofs.shelf.Ways.{tells}
 use Rattle.refusals.proofs.Filling.{fills-short}
-use Rattle.frame.specs.Making.{request?, requestStart, frameBytes, transmission, asked}
+use Rattle.frame.specs.Making.{request?, requestStart, transmission, asked}
 use Rattle.frame.specs.Transmissions.{Request}
 use Rattle.refusals.proofs.Placing.{Wrote}
 use Rattle.frame.proofs.Making.{made-fills, made-back}

@@ -1,4 +1,3 @@
-use borrow.Author.Needs.{needs}
 use native.Mathlib.Omega.{arith}
 use mathlib.Core.Logic.{inl, inr}
 use mathlib.Core.Path.{_≡_, sym, ap, _∙_}
@@ -11,8 +10,7 @@ use Rattle.std.proofs.shelf.Results.{err-from-errBy}
 use Rattle.refusals.specs.declared.Refusal.the-variants.{OutOfForm}
 use Rattle.frame.specs.declared.Transmission.{Transmission}
 use Rattle.frame.specs.Check.{checkOf}
-use Rattle.frame.specs.Transmissions.{readRequest, spanOf}
-use Rattle.frame.specs.Views.{viewed, requestParts}
+use Rattle.frame.specs.Transmissions.{readRequest}
 use Rattle.frame.proofs.Meanings.{request-value, request-refused, request-means, request-again}
 use Rattle.frame.proofs.reader.read_request.Needs as need
 use Rattle.frame.proofs.reader.read_request.Needs.{then-preambles-lt-LEAST-PREAMBLES·by·then-preambles-lt-LEAST-PREAMBLES, then-preambles-lt-LEAST-PREAMBLES·by·else-preambles-lt-LEAST-PREAMBLES·then-check-ne0}

@@ -1,4 +1,4 @@
-use mathlib.Core.Path.{_≡_, _∙_}
+use mathlib.Core.Path.{_∙_}
 use Rattle.rack.proofs.Sides.{told-sides}
 use Rattle.rack.proofs.side_by_side.SideBySideRack.count.Needs as need
 

@@ -1,6 +1,5 @@
-use mathlib.Core.Path.{_≡_, sym, ap, _∙_}
-use mathlib.Core.Bool.{cond}
-use Rattle.std.specs.declared.result.Result.the-variants.{Ok, Err}
+use mathlib.Core.Path.{sym, ap, _∙_}
+use Rattle.std.specs.declared.result.Result.the-variants.{Ok}
 use Rattle.rack.specs.Meaning.{answered}
 use Rattle.rack.proofs.Sides.{routed-left, routed-right}
 use Rattle.rack.proofs.side_by_side.SideBySideRack.fields.Needs as need

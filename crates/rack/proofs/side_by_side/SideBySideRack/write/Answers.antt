@@ -1,4 +1,4 @@
-use mathlib.Core.Path.{_≡_, refl, ap, _∙_}
+use mathlib.Core.Path.{refl, ap, _∙_}
 use Rattle.rack.specs.Changes.{answerOf}
 use Rattle.rack.proofs.Sides.{routed-left, routed-right, written-left, written-right, records-left, records-right}
 use Rattle.rack.proofs.side_by_side.SideBySideRack.write.Needs as need

@@ -1,15 +1,14 @@
-use borrow.Author.Needs.{needs}
 use native.Mathlib.Omega.{arith}
 use mathlib.Core.Bool.{true}
 use mathlib.Core.List.{List, [], _∷_}
 use mathlib.Core.Path.{_≡_, refl, sym, ap, _∙_}
 use lib.ListN.{length}
-use Rattle.std.specs.declared.option.Option.the-variants.{Some, None}
+use Rattle.std.specs.declared.option.Option.the-variants.{None}
 use Rattle.std.proofs.shelf.Results.{err-from-errBy}
 use Rattle.std.proofs.shelf.Tests.{true≢false}
 use Rattle.record.specs.Faults.{faultOf}
 use Rattle.record.specs.Layout.{decoded}
-use Rattle.rack.specs.Files.{faultIn, orFault, fileAnswer}
+use Rattle.rack.specs.Files.{faultIn, orFault}
 use Rattle.rack.proofs.OneRecord.{one-answer, one-records}
 use Rattle.rack.proofs.single.Single.fill.Needs as need
 

@@ -1,9 +1,7 @@
 use native.Mathlib.Omega.{arith}
-use mathlib.Core.List.{List}
-use mathlib.Core.Path.{_≡_, refl, sym, ap, _∙_}
+use mathlib.Core.Path.{_≡_, refl, _∙_}
 use Prim.Native.Nat.{_+_, _-_, _*_, _/_, _<_}
-use lib.ListN.{length, take, drop, length-set}
-use Rattle.std.specs.declared.option.Option.the-variants.{None}
+use lib.ListN.{length, length-set}
 use Rattle.std.proofs.shelf.Results.{err-from-errBy}
 use Rattle.shelf.proofs.FileRows.{rows-more, none-more, found, lawful-more, file-refused}
 use Rattle.shelf.proofs.shelf.Shelf.fill.Needs as need

@@ -1,5 +1,5 @@
 use native.Mathlib.Omega.{arith}
-use mathlib.Core.Path.{_≡_, refl, sym, ap, _∙_}
+use mathlib.Core.Path.{_≡_, sym, ap, _∙_}
 use lib.ListN.{length-set}
 use Rattle.std.proofs.shelf.Tests.{true≢false}
 use Rattle.record.specs.Lawful.{Lawful}
