@@ -20,7 +20,7 @@ use Rattle.record.specs.Lawful.{Lawful}
 use Rattle.record.specs.declared.Fields.{Fields}
 use Rattle.record.specs.declared.Record.{Record}
 use Rattle.rack.specs.Meaning.{told, recordAt, answered}
-use Rattle.rack.proofs.Sides.{channel-plain}
+use Rattle.rack.proofs.Channels.{channel-plain}
 use Rattle.header.specs.Shares.{fieldsShare, optionShare, shareAt, totalShare, rackShare}
 
 -- a lawful setpoint has a load, of at most 102,400

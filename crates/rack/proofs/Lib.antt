@@ -1,6 +1,4 @@
 pub mod Lawful
 pub mod Meaning
-pub mod Sides
-pub mod Ceilings
-pub mod OneRecord
+pub mod Channels
 pub mod Beginning

@@ -38,18 +38,16 @@ pub fn open_key<R: Rack>(rack: &mut R, channel: u8) -> Result<Fields, RackRefusa
 #[cfg(test)]
 mod tests {
     use super::*;
-    use rack::Ceiling;
-    use rack::CeilingRack;
+    use combined::Ceiling;
+    use combined::CeilingRack;
+    use combined::SideBySide;
+    use combined::SideBySideRack;
     use rack::FileFault;
     use rack::FileFaultDebug;
     use rack::FileFaultPartialEq;
     use rack::RackRefusalDebug;
     use rack::RackRefusalPartialEq;
     use rack::RecordError;
-    use rack::SideBySide;
-    use rack::SideBySideRack;
-    use rack::Single;
-    use rack::SingleRack;
     use rack::blank_record;
     use record::RECORD_LENGTH;
     use record::RecordFault;
@@ -57,6 +55,8 @@ mod tests {
     use refusals::Refusal;
     use shelf::Shelf;
     use shelf::ShelfRack;
+    use single::Single;
+    use single::SingleRack;
     use std::test::*;
 
     // Setpoints in percent, as patterns.

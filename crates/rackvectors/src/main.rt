@@ -7,17 +7,15 @@
 //
 // Bytes and patterns are capital hexadecimal, '-' where there are none. A write goes to a single instrument under a
 // ceiling, which then tells its 80 bytes.
+use combined::Ceiling;
+use combined::CeilingRack;
 use hex::HexFaultDebug;
 use hex::HexFaultDisplay;
 use hex::HexFaultError;
-use rack::Ceiling;
-use rack::CeilingRack;
 use rack::Change;
 use rack::FileFault;
 use rack::Rack;
 use rack::RackRefusal;
-use rack::Single;
-use rack::SingleRack;
 use rack::blank_record;
 use record::RECORD_LENGTH;
 use record::Reading;
@@ -27,6 +25,8 @@ use record::value_of;
 use setpoint::Setpoint;
 use shelf::Shelf;
 use shelf::ShelfRack;
+use single::Single;
+use single::SingleRack;
 use std::alloc::Global;
 use std::error::AnyError;
 

@@ -18,7 +18,7 @@ use Rattle.record.specs.Layout.{decoded}
 use Rattle.rack.specs.Lawful.{lawful?}
 use Rattle.rack.specs.Meaning.{told, recordAt, channelOf}
 use Rattle.rack.proofs.Lawful.{law-decided}
-use Rattle.rack.proofs.Sides.{channel-plain}
+use Rattle.rack.proofs.Channels.{channel-plain}
 use Rattle.shelf.specs.Rows.{recordsIn, allLawful?}
 
 -- the test of all records tells that all are lawful

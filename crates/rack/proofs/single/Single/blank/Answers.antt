@@ -1,5 +1,0 @@
-use Rattle.rack.proofs.Beginning.{blank-lawful}
-use Rattle.rack.proofs.single.Single.blank.Needs as need
-
-pub ghost-result : need.ghost-result
-ghost-result c = (rw (c .blank-record .ensures) blank-lawful, tt)
