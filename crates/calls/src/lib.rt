@@ -1,4 +1,6 @@
 // The calls of a panel, and what comes of each, as values.
+#![tactic(auto)]
+
 use record::Reading;
 use refusals::Refusal;
 

@@ -1,4 +1,6 @@
 // Bytes and letters as they are printed.
+#![tactic(auto)]
+
 use std::fmt;
 
 // Bytes as they are printed: two hexadecimal digits each, with a space between.

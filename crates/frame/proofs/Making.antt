@@ -7,8 +7,8 @@ use Rattle.refusals.proofs.Filling.{fills_done}
 use Rattle.refusals.proofs.Placing.{Wrote, wrote_more}
 use Rattle.frame.specs.Frames.{StartFrame}
 use Rattle.frame.specs.Making.{request?, start_for, frame_bytes, sent, ReadsBack}
-use Rattle.frame.specs.Transmissions.{Request, Sent, Transmits}
-use Rattle.frame.proofs.Transmissions.{sends, complete}
+use Rattle.frame.specs.Transmissions.{Request, Sent}
+use Rattle.frame.proofs.Transmissions.{sends, complete, request_sent}
 
 module _ (short long : ℕ) (q : Request) (start : ℕ) (before now after : List ℕ) (mid end : ℕ)
     (formed : request? q ≡ true) (starts : start ≡ start_for short long (length q.address)) (room : length (sent short long q) ≤ length before)
@@ -35,6 +35,6 @@ module _ (short long : ℕ) (q : Request) (start : ℕ) (before now after : List
       rw (filled, take_at (sent short long q) (drop (length (sent short long q)) before) end (sym long_as)) (sends short long q formed)
 
 -- a request that was made reads back
-pub made_back : (q : Request) (out : List ℕ) (r : Result ℕ Refusal) → IfOk r (λ n. Transmits q (take n out)) → IfOk r (λ n. ReadsBack q (take n out))
-made_back q out (Ok n) h = record { sound = h; same = complete q (take n out) h }
+pub made_back : (q : Request) (out : List ℕ) (r : Result ℕ Refusal) → IfOk r (λ n. Sent (StartFrame 2 130) q (take n out)) → IfOk r (λ n. ReadsBack q (take n out))
+made_back q out (Ok n) h = let t = request_sent q (take n out) h in record { sound = t; same = complete q (take n out) t }
 made_back q out (Err e) h = tt

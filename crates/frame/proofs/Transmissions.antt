@@ -7,9 +7,9 @@ use Rattle.std.proofs.lemmas.List.Sums.{fold_push}
 use Rattle.std.proofs.lemmas.Bool.Decides.{nat_tests}
 use Rattle.std.proofs.ByRecursion.{All-drop}
 use Rattle.frame.specs.Check.{check_of}
-use Rattle.frame.specs.Frames.{Parts, Framed, StartFrame, RequestFrame, request_frame}
+use Rattle.frame.specs.Frames.{Parts, Framed, StartFrame, request_frame}
 use Rattle.frame.specs.Transmissions.{preambles_of, span_of, Request, Sent, Transmits, request_of, read_span, read_request}
-use Rattle.frame.specs.Making.{request?, start_for, checked, frame_bytes, sent, transmission, MadeAgain}
+use Rattle.frame.specs.Making.{request?, start_for, checked, frame_bytes, sent, MadeAgain}
 use Rattle.std.specs.List.{AllByRecursion as All}
 use Rattle.frame.proofs.Frames.{request_read, read_request_lem, data_limit}
 
@@ -48,11 +48,18 @@ module _ (short long : ℕ) (a : eqb short 255 ≡ false) (b : eqb long 255 ≡ 
   pub span_sent : (q : Request) (bytes : List ℕ) (h : Sent (StartFrame short long) q bytes) → span_of bytes ≡ h.span
   span_sent q bytes h = rw (preambles_sent q bytes h) (rw h.spelled (span_led q.preambles h.span))
 
+-- a request's transmission, as one of its kind of frame, and the other way round
+abbrev pub sent_request : (q : Request) (bytes : List ℕ) → Transmits q bytes → Sent (StartFrame 2 130) q bytes
+sent_request q bytes h = record { span = h.span; check = h.check; led = h.led; spelled = h.spelled; framed = h.framed; sound = h.sound }
+
+pub request_sent : (q : Request) (bytes : List ℕ) → Sent (StartFrame 2 130) q bytes → Transmits q bytes
+request_sent q bytes h = record { span = h.span; check = h.check; led = h.led; spelled = h.spelled; framed = h.framed; sound = h.sound }
+
 -- what the relation says, the reader finds
 pub complete : (q : Request) (bytes : List ℕ) → Transmits q bytes → read_request bytes ≡ Ok q
 complete q bytes h =
-    let n = preambles_sent 2 130 refl refl q bytes h in
-    let s = span_sent 2 130 refl refl q bytes h in
+    let n = preambles_sent 2 130 refl refl q bytes (sent_request q bytes h) in
+    let s = span_sent 2 130 refl refl q bytes (sent_request q bytes h) in
     let t = and_from (leb 2 q.preambles) (eqb (check_of h.span) 0) (le-leb 2 q.preambles h.led) (eq-eqb (check_of h.span) 0 h.sound) in
     ap (λ m. read_span m (span_of bytes)) n ∙ (ap (read_span q.preambles) s ∙ (cond-true _ _ _ t ∙ ap (request_of q.preambles) (request_read h.span (parts_with q h.check) h.framed)))
 

@@ -2,6 +2,8 @@
 //
 // A frame is a start byte, an address of one or five bytes, a command, a count, as many data bytes, and a check byte; a
 // transmission is at least two preambles FF and then a frame. `specs/Frames.antt` states the relation once for both widths.
+#![tactic(auto)]
+
 ghost use Rattle.std.specs.Prelude.{◌≡◌, ◌/◌, slice_index};
 ghost use Rattle.frame.specs.Views.{master_bit, address_bytes};
 

@@ -1,4 +1,6 @@
 // The supply header: what the channels of a rack may draw together.
+#![tactic(auto)]
+
 ghost use Rattle.std.specs.Prelude.{◌≡◌, ◌≤◌};
 ghost use Rattle.refusals.specs.Refusals.{numbered};
 ghost use Rattle.header.specs.Shares.{share_at, rack_share, capacity_of, fits?};

@@ -1,4 +1,6 @@
 // What a transmission means to one channel: whether it is meant, which code it gives, what it writes, which bytes answer.
+#![tactic(auto)]
+
 mod addressing;
 mod codes;
 mod commands;

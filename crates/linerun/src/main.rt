@@ -1,4 +1,6 @@
 // Plays a recording of a panel: `rack.rec` beside it is the rack, events come from standard input, lines go to standard output.
+#![tactic(auto)]
+
 use anyhow::anyhow;
 use player::{Player, Tape, play};
 use std::fs;

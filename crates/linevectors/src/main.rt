@@ -5,6 +5,8 @@
 // The first asks which request a command with its data is. The second lets the channel with this record answer the
 // characters with these bytes and marks, into a buffer of LENGTH bytes A5, under a header with this supply and this sum
 // of the other channels' shares. Bytes are capital hexadecimal, '-' where there are none.
+#![tactic(auto)]
+
 use anyhow::anyhow;
 use line::{Header, Received, Request};
 use record::{RECORD_LENGTH, Record};

@@ -1,4 +1,6 @@
 // The panel: fifteen channels of a rack behind one line and one supply header.
+#![tactic(auto)]
+
 mod characters;
 mod driving;
 mod ending;

@@ -1,4 +1,6 @@
 // Plays a recording of a panel: events in, lines out, by blocks.
+#![tactic(auto)]
+
 mod driving;
 mod playing;
 mod tape;

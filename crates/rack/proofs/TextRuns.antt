@@ -1,5 +1,5 @@
 -- A run of text, written or refused.
-use Rattle.std.proofs.Common.{◌≡◌, ℕ, Bool, true, false, cond, List, Ok, Err, Result, refl, ap, ◌∙◌}
+use Rattle.std.proofs.Common.{◌≡◌, ℕ, Bool, true, false, cond, List, Ok, Err, Result, refl}
 use Rattle.record.specs.declared.Record.{Record}
 use Rattle.refusals.specs.Filling.{placed}
 use Rattle.rack.specs.Changes.{with_text, answer_of, record_after}

@@ -1,4 +1,6 @@
 // Racks of channels, by the list of records that they mean.
+#![tactic(auto)]
+
 mod blank;
 mod changes;
 mod files;

@@ -1,4 +1,6 @@
 // Racks of every kind under one generic function, and tests of them.
+#![tactic(auto)]
+
 ghost use Rattle.std.specs.Prelude.{◌≡◌};
 ghost use Rattle.rack.specs.Meaning.{asked};
 ghost use Rattle.rack.specs.Refusals.{numbered};

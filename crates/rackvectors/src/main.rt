@@ -7,6 +7,8 @@
 //
 // Bytes and patterns are capital hexadecimal, '-' where there are none. A write goes to a single instrument under a
 // ceiling, which then tells its 80 bytes.
+#![tactic(auto)]
+
 use anyhow::anyhow;
 use combined::Ceiling;
 use rack::{Change, FileFault, Rack, RackRefusal, blank_record};

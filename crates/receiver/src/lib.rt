@@ -1,4 +1,6 @@
 // The receiver of a panel: the characters of one transmission, in fixed memory.
+#![tactic(auto)]
+
 mod receiving;
 mod state;
 

@@ -1,4 +1,6 @@
 // The record of a gas flow channel: 80 bytes, of each number the most significant byte first.
+#![tactic(auto)]
+
 ghost use Rattle.std.specs.Prelude.{◌≡◌, Decides};
 ghost use Rattle.record.specs.Lawful.{in_range, is_lawful, LawfulFields, Lawful};
 

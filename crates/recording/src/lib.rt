@@ -1,4 +1,6 @@
 // Recordings of a panel: calls from the bytes of events, and lines of text from outcomes.
+#![tactic(auto)]
+
 mod collector;
 mod decoder;
 mod pending;

@@ -4,6 +4,8 @@
 //
 // The last asks a single instrument that was filled with the record for the text byte at a place.
 // Bytes are capital hexadecimal, '-' where there are none.
+#![tactic(auto)]
+
 use anyhow::anyhow;
 use rack::{FileFault, Rack, blank_record};
 use record::RECORD_LENGTH;

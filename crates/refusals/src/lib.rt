@@ -1,4 +1,6 @@
 // The refusals of the panel's calls. A refused call changes nothing.
+#![tactic(auto)]
+
 ghost use Rattle.std.specs.Prelude.{◌≡◌, Some};
 ghost use Rattle.refusals.specs.Refusals.{number_of, words_of};
 

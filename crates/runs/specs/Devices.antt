@@ -48,14 +48,14 @@ pub record Lawful (D : Device) : Type 0 where
   pub operated_grant : (r : D.Rec) (u : D.Local) → D.grant (D.operated r u) ≡ D.after_local (D.grant r) u (D.refusal r u)
   -- only a setpoint command that asks moves the share, and moves it to what it asks
   pub served_share : (r : D.Rec) (t : List D.Char) → D.asks? r t ≡ false → D.share (D.plate r) (D.grant (D.served r t)) ≡ D.share (D.plate r) (D.grant r)
-  pub asked_share_lem : (r : D.Rec) (t : List D.Char) → D.asks? r t ≡ true → D.share (D.plate r) (D.grant (D.served r t)) ≡ D.asked (D.plate r) t
+  pub asked_share : (r : D.Rec) (t : List D.Char) → D.asks? r t ≡ true → D.share (D.plate r) (D.grant (D.served r t)) ≡ D.asked (D.plate r) t
   pub operated_share : (r : D.Rec) (u : D.Local) → D.share (D.plate r) (D.grant (D.operated r u)) ≡ D.share (D.plate r) (D.grant r)
   -- the header's refusal is told from every other answer
   pub reply_differs : (r : D.Rec) (t : List D.Char) → D.meant? r t ≡ true → D.denial? (D.reply r t) ≡ false
   pub denial_is : (r : D.Rec) (t : List D.Char) → D.meant? r t ≡ true → D.asks? r t ≡ true → D.denial? (D.denial r t) ≡ true
   -- a setpoint command is judged by plate and history
   pub asks_setpoint : (r : D.Rec) (t : List D.Char) → D.asks? r t ≡ true → D.setpoint? t ≡ true
-  pub asks_by_lem : (r : D.Rec) (t : List D.Char) → D.asks? r t ≡ D.asks_by? (D.plate r) (D.grant r) t
+  pub asks_by : (r : D.Rec) (t : List D.Char) → D.asks? r t ≡ D.asks_by? (D.plate r) (D.grant r) t
   pub meant_by : (r : D.Rec) (t : List D.Char) → D.setpoint? t ≡ true → D.meant? r t ≡ D.meant_by? (D.plate r) (D.grant r) t
   -- a damaged transmission changes nothing and asks for nothing
   pub damaged_served : (r : D.Rec) (t : List D.Char) → D.Damaged t → D.served r t ≡ r

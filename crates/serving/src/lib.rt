@@ -1,4 +1,6 @@
 // A rack's channels as the line meets them: which one is meant, its record, what the others draw.
+#![tactic(auto)]
+
 mod answering;
 mod choosing;
 mod reading;

@@ -1,4 +1,6 @@
 // A gas flow channel's setpoint: percent of full scale, held as an IEEE 754 binary32 pattern.
+#![tactic(auto)]
+
 ghost use Rattle.std.specs.Prelude.{◌≡◌, ◌*◌, ◌^◌, ◌<◌, ◌≤◌, true, IfSome};
 ghost use Rattle.std.specs.Float.{float_is_finite, ratio_ceil};
 ghost use Rattle.setpoint.specs.Decoding.{Decodes};

@@ -4,6 +4,8 @@
 //     units PATTERN FULLSCALE   share LOAD FULLSCALE
 //
 // Patterns are capital hexadecimal.
+#![tactic(auto)]
+
 use anyhow::anyhow;
 use setpoint::Setpoint;
 use words::to_pattern;

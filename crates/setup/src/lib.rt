@@ -1,4 +1,6 @@
 // Whether a set-up, a rack of channels under a supply, is taken.
+#![tactic(auto)]
+
 ghost use Rattle.std.specs.Prelude.{◌≡◌, ◌≤◌, length, drop, None};
 ghost use Rattle.std.specs.Option.{option_map};
 ghost use Rattle.refusals.specs.Refusals.{number_of};

@@ -1,4 +1,6 @@
 // A shelf of records, and the record files that fill it.
+#![tactic(auto)]
+
 mod filling;
 mod shelf;
 mod shelf_rack;

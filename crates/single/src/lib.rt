@@ -1,4 +1,6 @@
 // A single instrument: a rack of one channel.
+#![tactic(auto)]
+
 mod single;
 mod single_rack;
 

@@ -1,4 +1,6 @@
 // Packed text: four letters, 20 to 5F hexadecimal, in three bytes, six bits each, the first letter highest.
+#![tactic(auto)]
+
 ghost use Rattle.std.specs.Prelude.{◌≡◌, ◌+◌, ◌-◌, ◌*◌, ◌/◌, ◌%◌, ◌<◌, length, take, IfOk};
 ghost use Rattle.refusals.specs.Refusals.{numbered};
 ghost use Rattle.refusals.specs.Filling.{Fills};

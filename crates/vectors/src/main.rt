@@ -6,6 +6,8 @@
 //     read BYTES
 //
 // Bytes are capital hexadecimal, or '-' where there are none; LENGTH is that of the lent buffer, whose bytes are A5 before.
+#![tactic(auto)]
+
 use anyhow::anyhow;
 use frame::{Address, Master, Transmission};
 use refusals::Refusal;

@@ -1,4 +1,6 @@
 // One exchange, step by step: a master asks for the channel with a tag, and the rack of the panel is laid out.
+#![tactic(auto)]
+
 mod channels;
 mod digits;
 

@@ -1,4 +1,6 @@
 // Words of a table of calls: bytes and patterns in capital hexadecimal, and '-' where there are no bytes.
+#![tactic(auto)]
+
 ghost use Rattle.std.specs.Prelude.{◌≡◌, ◌<◌, [], IfSome, IfOk, Some, string_bytes};
 ghost use Rattle.words.specs.declared.WordFault.TheVariants.{Memory};
 ghost use Rattle.words.specs.Hex.{digit_of, value_of, byte_of, before, bytes_of};

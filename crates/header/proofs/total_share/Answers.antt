@@ -8,7 +8,7 @@ loop-channel-preserved g c =
     let records = g.R.Rack.records c.args.rack.now in
     let i = c.loop-channel.channel in
     let n = total_next records i (omega arith) in
-    (omega (arith, n, c.loop-channel.invariant.0, c.channel-share-total.ensures.value), omega (arith, c.loop-channel.invariant.1, c.channel-share-total.ensures.bound))
+    (omega (arith, n, c.loop-channel.invariant.0, c.channel_share-total.ensures.value), omega (arith, c.loop-channel.invariant.1, c.channel_share-total.ensures.bound))
 
 pub returns : goal.returns
 returns g c =

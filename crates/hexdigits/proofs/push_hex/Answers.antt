@@ -15,8 +15,8 @@ loop-byte-preserved c =
     let text = vec_items c.loop-byte.text in
     let rest = hex_of (drop (i + 1) bytes) in
     let e : hex_of (drop i bytes) ≡ digit_of (get_or bytes i 0 / 16) ∷ digit_of (get_or bytes i 0 % 16) ∷ rest = at_drop_more hex_of bytes i 0 c.loop-byte-test.true in
-    let p = c.push-reserved.ensures in
-    let q = c.push-reserved-in-loop-byte.ensures in
+    let p = c.push_reserved.ensures in
+    let q = c.push_reserved-in-loop-byte.ensures in
     let t = two text (digit_of (get_or bytes i 0 / 16)) (digit_of (get_or bytes i 0 % 16)) rest in
     (cc, omega arith)
 
@@ -24,7 +24,7 @@ pub returns : goal.returns
 returns c =
     let e = at_drop_all hex_of c.args.bytes.now c.loop-byte.byte-index c.loop-byte-test.false in
     let n = append-nil (vec_items c.loop-byte.text) in
-    record { items = cc; back = hex_back c.args.bytes.now (All-from_get_or (λ b. b < 256) c.args.bytes.now 0 (λ i _. omega (arith, c.type-inv.bytes i))) }
+    record { items = cc; back = hex_back c.args.bytes.now (All-from_get_or (λ b. b < 256) c.args.bytes.now 0 (λ i _. omega (arith, c.type_inv.bytes i))) }
 
-pub returns-in-err-reserve : goal.returns-in-err-reserve
-returns-in-err-reserve c = record { items = search rules; back = hex_back c.args.bytes.now (All-from_get_or (λ b. b < 256) c.args.bytes.now 0 (λ i _. omega (arith, c.type-inv.bytes i))) }
+pub returns-in_err-reserve : goal.returns-in_err-reserve
+returns-in_err-reserve c = record { items = search rules; back = hex_back c.args.bytes.now (All-from_get_or (λ b. b < 256) c.args.bytes.now 0 (λ i _. omega (arith, c.type_inv.bytes i))) }

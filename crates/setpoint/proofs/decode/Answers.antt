@@ -11,5 +11,5 @@ returns-in-255 c = decodes_infinite c.args.pattern c.in-255.is c.if-fraction-eq0
 pub returns-in-255-2 : goal.returns-in-255-2
 returns-in-255-2 c = decodes_nan c.args.pattern c.in-255.is c.if-fraction-eq0.false
 
-pub returns-in-default : goal.returns-in-default
-returns-in-default c = decodes_normal c.args.pattern (λ e. omega arith) (λ e. omega arith)
+pub returns-in_default : goal.returns-in_default
+returns-in_default c = decodes_normal c.args.pattern (λ e. omega arith) (λ e. omega arith)

@@ -2,14 +2,14 @@ use Rattle.std.proofs.Common.{sym}
 use Rattle.setpoint.proofs.Rounding.{lawful_pattern, computed_number, computed_finite, computed_units}
 use Rattle.setpoint.proofs.in_units.Goals as goal
 
-pub float-from-bits-units : goal.float-from-bits-units
-float-from-bits-units c = lawful_pattern c.args.pattern (sym c.if-lawful.ensures.value)
+pub float_from_bits-units : goal.float_from_bits-units
+float_from_bits-units c = lawful_pattern c.args.pattern (sym c.if-lawful.ensures.value)
 
-pub float-to-bits-result : goal.float-to-bits-result
-float-to-bits-result c = computed_number c.args.pattern c.args.full-scale (sym c.if-lawful.ensures.value) c.if-full-scale-le-MAX-FULL-SCALE.true
+pub float_to_bits-result : goal.float_to_bits-result
+float_to_bits-result c = computed_number c.args.pattern c.args.full_scale (sym c.if-lawful.ensures.value) c.if-full_scale-le-MAX_FULL_SCALE.true
 
-pub returns-then-full-scale-le-MAX-FULL-SCALE : goal.returns-then-full-scale-le-MAX-FULL-SCALE
-returns-then-full-scale-le-MAX-FULL-SCALE c = record {
-  value = computed_units c.args.pattern c.args.full-scale (sym c.if-lawful.ensures.value) c.if-full-scale-ge1.true c.if-full-scale-le-MAX-FULL-SCALE.true;
-  number = computed_finite c.args.pattern c.args.full-scale (sym c.if-lawful.ensures.value) c.if-full-scale-le-MAX-FULL-SCALE.true;
+pub returns-then-full_scale-le-MAX_FULL_SCALE : goal.returns-then-full_scale-le-MAX_FULL_SCALE
+returns-then-full_scale-le-MAX_FULL_SCALE c = record {
+  value = computed_units c.args.pattern c.args.full_scale (sym c.if-lawful.ensures.value) c.if-full_scale-ge1.true c.if-full_scale-le-MAX_FULL_SCALE.true;
+  number = computed_finite c.args.pattern c.args.full_scale (sym c.if-lawful.ensures.value) c.if-full_scale-le-MAX_FULL_SCALE.true;
 }

@@ -6,5 +6,5 @@ use Rattle.setpoint.proofs.load.Goals as goal
 pub returns-in-Load : goal.returns-in-Load
 returns-in-Load c = record { value = load_of_lem (value_of c.args.pattern) _ c.in-Load.ensures; least = load_law (value_of c.args.pattern) }
 
-pub returns-in-default : goal.returns-in-default
-returns-in-default c = record { value = no_load c.classify.result c.in-default.not-Load ∙ load_of_lem (value_of c.args.pattern) c.classify.result c.classify.ensures; least = load_law (value_of c.args.pattern) }
+pub returns-in_default : goal.returns-in_default
+returns-in_default c = record { value = no_load c.classify.result c.in_default.not-Load ∙ load_of_lem (value_of c.args.pattern) c.classify.result c.classify.ensures; least = load_law (value_of c.args.pattern) }

@@ -4,7 +4,7 @@ use Rattle.setup.proofs.any_twins.Goals as goal
 
 pub loop-channel-preserved : goal.loop-channel-preserved
 loop-channel-preserved g c =
-    twins_on (g.R.Rack.records c.args.rack.now) c.loop-channel.channel c.if-has-twin.ensures
+    twins_on (g.R.Rack.records c.args.rack.now) c.loop-channel.channel c.if-has_twin.ensures
     ∙ c.loop-channel.invariant
 
 pub returns : goal.returns

@@ -8,9 +8,9 @@ pub returns : goal.returns
 returns g c =
     let records = g.R.Rack.records c.args.rack.now in
     let supply = c.args.supply in
-    let value = c.first-refusal.ensures in
+    let value = c.first_refusal.ensures in
     record {
       value = value;
       taken = λ e. taken supply records (sym value ∙ ap (option_map number_of) e);
-      exact = λ s. numberless c.first-refusal.result (value ∙ exact supply records s);
+      exact = λ s. numberless c.first_refusal.result (value ∙ exact supply records s);
     }

@@ -14,7 +14,7 @@ returns-then-out-groups c = record { fills = fills_short (eq-eqb (length c.args.
 pub loop-i-preserved : goal.loop-i-preserved
 loop-i-preserved c =
     let k : c.loop-i.i * 3 + 3 - c.loop-i.i * 3 ≡ 3 = omega arith in
-    filled_more (λ g. four_letters (bits_of_bytes g)) 3 4 (λ _. refl) c.loop-i.i c.args.packed.now c.args.out.now c.loop-i.invariant (omega arith) (c.copy-from-slice.ensures.after ∙ (rw k at c.four-letters-letters.ensures))
+    filled_more (λ g. four_letters (bits_of_bytes g)) 3 4 (λ _. refl) c.loop-i.i c.args.packed.now c.args.out.now c.loop-i.invariant (omega arith) (c.copy_from_slice.ensures.after ∙ (rw k at c.four_letters-letters.ensures))
 
 pub returns : goal.returns
 returns c =
@@ -24,5 +24,5 @@ returns c =
     let out : c.loop-i.out ≡ unpacked c.args.packed.now ++ drop (length (unpacked c.args.packed.now)) c.args.out.now = rw (l, ← i) c.loop-i.invariant in
     record {
       fills = fills_done formed (omega arith) (sym l) out;
-      back = rw (out, take_at (unpacked c.args.packed.now) (drop (length (unpacked c.args.packed.now)) c.args.out.now) (length c.args.packed.now / 3 * 4) l) (packs_again c.args.packed.now (All-from_get_or (λ b. b < 256) c.args.packed.now 0 (λ i _. omega (arith, c.type-inv.packed i))) formed);
+      back = rw (out, take_at (unpacked c.args.packed.now) (drop (length (unpacked c.args.packed.now)) c.args.out.now) (length c.args.packed.now / 3 * 4) l) (packs_again c.args.packed.now (All-from_get_or (λ b. b < 256) c.args.packed.now 0 (λ i _. omega (arith, c.type_inv.packed i))) formed);
     }

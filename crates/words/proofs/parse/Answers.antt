@@ -6,15 +6,15 @@ use Rattle.words.proofs.parse.Goals as goal
 pub returns-then-text-ne0 : goal.returns-then-text-ne0
 returns-then-text-ne0 c = odd c.args.text.now (λ e. omega arith)
 
-pub returns-in-default : goal.returns-in-default
-returns-in-default c = at_none c.args.text.now (vec_items c.loop-i.bytes) c.loop-i.i c.loop-i.invariant (omega arith) (sym c.in-default.ensures)
+pub returns-in_default : goal.returns-in_default
+returns-in_default c = at_none c.args.text.now (vec_items c.loop-i.bytes) c.loop-i.i c.loop-i.invariant (omega arith) (sym c.in_default.ensures)
 
-pub returns-in-err-push : goal.returns-in-err-push
-returns-in-err-push c = let p = err_from_is_err_and c.from-residual.result c.from-residual.ensures.1 in rw (p.1, p.2) tt
+pub returns-in_err-push : goal.returns-in_err-push
+returns-in_err-push c = let p = err_from_is_err_and c.from_residual.result c.from_residual.ensures.1 in rw (p.1, p.2) tt
 
 pub loop-i-preserved : goal.loop-i-preserved
 loop-i-preserved c =
-    rw c.in-ok-push.ensures.items
+    rw c.in_ok-push.ensures.items
     (at_byte c.args.text.now (vec_items c.loop-i.bytes) c.loop-i.i c.loop-i.invariant c.in-Some.byte (omega arith) (sym c.in-Some.ensures))
 
 pub returns : goal.returns

@@ -36,6 +36,6 @@ returns c =
     let p : mid_of {X = ℕ} 0 (n - 0) (replicate 20 255) ≡ replicate n 255 = rw sub-zero (take-replicate {X = ℕ} n 20 255 (omega arith)) in
     let led : Wrote 0 (replicate n 255) out c.put-end.new.out c.put-end.result = record { holds = rw (← p) c.put-end.ensures.after; ends = rw (← p) c.put-end.ensures.next } in
     record {
-      fills = made_fills c.args.short c.args.long q c.match-address.start out c.put-end.new.out c.put-frame.new.out c.put-end.result c.put-frame.result f w.1 room led c.put-frame.ensures.after c.put-frame.ensures.next;
-      sound = made_sound c.args.short c.args.long q c.match-address.start out c.put-end.new.out c.put-frame.new.out c.put-end.result c.put-frame.result f w.1 room led c.put-frame.ensures.after c.put-frame.ensures.next;
+      fills = made_fills c.args.short c.args.long q c.match-address.start out c.put-end.new.out c.put_frame.new.out c.put-end.result c.put_frame.result f w.1 room led c.put_frame.ensures.after c.put_frame.ensures.next;
+      sound = made_sound c.args.short c.args.long q c.match-address.start out c.put-end.new.out c.put_frame.new.out c.put-end.result c.put_frame.result f w.1 room led c.put_frame.ensures.after c.put_frame.ensures.next;
     }

@@ -10,19 +10,19 @@ use Rattle.frame.proofs.reader.read_frame.Goals as goal
 pub returns-in-130 : goal.returns-in-130
 returns-in-130 c =
     let span = c.args.span.now in
-    let bytes = All-from_get_or (λ b. b < 256) span 0 (λ i _. omega (arith, c.type-inv.span i)) in
-    let value : viewed frame_parts c.frame-after.result ≡ request_frame span = let e = take_rest span 6 in search rules in
-    record { value = value; kind = c.frame-after.ensures.kind (search rules); means = frame_means c.frame-after.result span value; limit = frame_limit c.frame-after.result span bytes value }
+    let bytes = All-from_get_or (λ b. b < 256) span 0 (λ i _. omega (arith, c.type_inv.span i)) in
+    let value : viewed frame_parts c.frame_after.result ≡ request_frame span = let e = take_rest span 6 in search rules in
+    record { value = value; kind = c.frame_after.ensures.kind (search rules); means = frame_means c.frame_after.result span value; limit = frame_limit c.frame_after.result span bytes value }
 
 pub returns-in-2 : goal.returns-in-2
 returns-in-2 c =
     let span = c.args.span.now in
-    let bytes = All-from_get_or (λ b. b < 256) span 0 (λ i _. omega (arith, c.type-inv.span i)) in
-    let value : viewed frame_parts c.frame-after-in-2.result ≡ request_frame span = let e = take_rest span 2 in search rules in
-    record { value = value; kind = c.frame-after-in-2.ensures.kind (search rules); means = frame_means c.frame-after-in-2.result span value; limit = frame_limit c.frame-after-in-2.result span bytes value }
+    let bytes = All-from_get_or (λ b. b < 256) span 0 (λ i _. omega (arith, c.type_inv.span i)) in
+    let value : viewed frame_parts c.frame_after-in-2.result ≡ request_frame span = let e = take_rest span 2 in search rules in
+    record { value = value; kind = c.frame_after-in-2.ensures.kind (search rules); means = frame_means c.frame_after-in-2.result span value; limit = frame_limit c.frame_after-in-2.result span bytes value }
 
-pub returns-in-default : goal.returns-in-default
-returns-in-default c =
+pub returns-in_default : goal.returns-in_default
+returns-in_default c =
     let span = c.args.span.now in
     let value : viewed frame_parts (Err OutOfForm) ≡ request_frame span = search rules in
     record { value = value; kind = tt; means = frame_means (Err OutOfForm) span value; limit = tt }

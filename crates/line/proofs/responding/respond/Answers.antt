@@ -18,13 +18,13 @@ returns c =
     let meant : means f r ≡ true = search rules in
     let bytes = c.bytes-2.ensures in
     let few : length c.bytes-2.result.now ≤ 26 = let l = length-take content.len content.bytes in let k = ap length bytes in omega (arith, content.within) in
-    let a = answer_given (heard c.args.received) c.args.header r c.act-content.new.«record» f out c.make-reply.new.out c.from.result c.bytes.result.now c.bytes-2.result.now (numbered c.make-reply.result)
+    let a = answer_given (heard c.args.received) c.args.header r c.act-content.new.«record» f out c.make_reply.new.out c.from.result c.bytes.result.now c.bytes-2.result.now (numbered c.make_reply.result)
     room lawful c.in-Some.ensures.value c.in-Some.ensures.whole.1 meant c.act-content.ensures.after c.act-content.ensures.lawful c.from.ensures c.bytes.ensures
-    (bytes ∙ c.act-content.ensures.bytes) few c.make-reply.ensures.fills c.in-ok-len.len (ap numbered c.in-ok-len.was) c.in-ok-len.ensures.sound in
+    (bytes ∙ c.act-content.ensures.bytes) few c.make_reply.ensures.fills c.in_ok-len.len (ap numbered c.in_ok-len.was) c.in_ok-len.ensures.sound in
     record { responds = a.0; lawful = λ _. c.act-content.ensures.lawful; answer = a.1 }
 
-pub returns-in-err-len : goal.returns-in-err-len
-returns-in-err-len c =
+pub returns-in_err-len : goal.returns-in_err-len
+returns-in_err-len c =
     let r = c.args.«record».now in
     let f = frame_parts c.in-Some.frame in
     let out = c.args.out.now in
@@ -34,6 +34,6 @@ returns-in-err-len c =
     let meant : means f r ≡ true = search rules in
     let bytes = c.bytes-2.ensures in
     let few : length c.bytes-2.result.now ≤ 26 = let l = length-take content.len content.bytes in let k = ap length bytes in omega (arith, content.within) in
-    absurd (answer_fits (heard c.args.received) c.args.header r c.act-content.new.«record» f out c.make-reply.new.out c.from.result c.bytes.result.now c.bytes-2.result.now (numbered c.make-reply.result)
+    absurd (answer_fits (heard c.args.received) c.args.header r c.act-content.new.«record» f out c.make_reply.new.out c.from.result c.bytes.result.now c.bytes-2.result.now (numbered c.make_reply.result)
     room lawful c.in-Some.ensures.value c.in-Some.ensures.whole.1 meant c.act-content.ensures.after c.act-content.ensures.lawful c.from.ensures c.bytes.ensures
-    (bytes ∙ c.act-content.ensures.bytes) few c.make-reply.ensures.fills (number_of c.in-err-len.field-0.0) (ap numbered c.in-err-len.was))
+    (bytes ∙ c.act-content.ensures.bytes) few c.make_reply.ensures.fills (number_of c.in_err-len.field-0.0) (ap numbered c.in_err-len.was))

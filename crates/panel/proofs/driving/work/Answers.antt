@@ -7,19 +7,19 @@ use Rattle.panel.proofs.driving.work.Goals as goal
 
 pub loop-init : goal.loop-init
 loop-init g c =
-    let same = ap g.R.Rack.records c.set-up.ensures.rack in
-    begins c.args.supply (g.R.Rack.records c.set-up.new.self.rack) c.set-up.new.self.supply c.set-up.new.self.receiver (g.D.Driver.told c.args.driver.now)
-    (subst (SetUp c.args.supply) (sym same) c.in-ok-set-up.ensures.taken) c.in-ok-set-up.ensures.begun
+    let same = ap g.R.Rack.records c.set_up.ensures.rack in
+    begins c.args.supply (g.R.Rack.records c.set_up.new.self.rack) c.set_up.new.self.supply c.set_up.new.self.receiver (g.D.Driver.told c.args.driver.now)
+    (subst (SetUp c.args.supply) (sym same) c.in_ok-set_up.ensures.taken) c.in_ok-set_up.ensures.begun
 
 pub loop-preserved : goal.loop-preserved
 loop-preserved g c = goes_on (asks_next (g.D.Driver.told c.next.new.self) c.loop.invariant c.next.ensures) c.perform.ensures
 
-pub returns-in-default : goal.returns-in-default
-returns-in-default g c =
-    let same = ap g.R.Rack.records c.set-up.ensures.rack in
+pub returns-in_default : goal.returns-in_default
+returns-in_default g c =
+    let same = ap g.R.Rack.records c.set_up.ensures.rack in
     let w = asks_next (g.D.Driver.told c.next.new.self) c.loop.invariant c.next.ensures in
     record {
-      refusal = c.in-ok-set-up.ensures.refusal;
+      refusal = c.in_ok-set_up.ensures.refusal;
       worked = subst (λ (rs : List Record). Worked c.args.supply rs (g.R.Rack.records c.loop.panel.rack) c.loop.panel.supply c.loop.panel.receiver (g.D.Driver.told c.args.driver.now) (g.D.Driver.told c.next.new.self)) same w;
       same = λ e. absurd (true≢false e);
       unasked = λ e. absurd (true≢false e);
@@ -27,9 +27,9 @@ returns-in-default g c =
 
 pub returns : goal.returns
 returns g c =
-    let same = ap g.R.Rack.records c.set-up.ensures.rack in
+    let same = ap g.R.Rack.records c.set_up.ensures.rack in
     record {
-      refusal = c.in-ok-set-up.ensures.refusal;
+      refusal = c.in_ok-set_up.ensures.refusal;
       worked = subst (λ (rs : List Record). Worked c.args.supply rs (g.R.Rack.records c.loop.panel.rack) c.loop.panel.supply c.loop.panel.receiver (g.D.Driver.told c.args.driver.now) (g.D.Driver.told c.loop.driver)) same c.loop.invariant;
       same = λ e. absurd (true≢false e);
       unasked = λ e. absurd (true≢false e);

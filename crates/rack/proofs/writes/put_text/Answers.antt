@@ -11,4 +11,4 @@ returns c =
     let few = le-leb (length bytes) 24 (omega arith) in
     let within = le-leb (place + length bytes) 45 (omega arith) in
     let t : text_run? place bytes ≡ true = and_from (leb (length bytes) 24) (leb (place + length bytes) 45) few within in
-    record { answer = rw t; after = rw t (placed_by_copy place c.args.text.now bytes c.copy-from-slice.ensures.after) }
+    record { answer = rw t; after = rw t (placed_by_copy place c.args.text.now bytes c.copy_from_slice.ensures.after) }

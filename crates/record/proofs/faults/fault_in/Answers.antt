@@ -6,18 +6,18 @@ use Rattle.record.proofs.faults.fault_in.Goals as goal
 pub returns-in-Some : goal.returns-in-Some
 returns-in-Some c = sym (fields_first c.args.bytes.now _ (cc))
 
-pub returns-then-not-is-finite : goal.returns-then-not-is-finite
-returns-then-not-is-finite c = grind (arith, nat_tests) ∙ sym (later_first c.args.bytes.now (cc))
+pub returns-then-not-is_finite : goal.returns-then-not-is_finite
+returns-then-not-is_finite c = grind (arith, nat_tests) ∙ sym (later_first c.args.bytes.now (cc))
 
-pub returns-then-not-is-finite-2 : goal.returns-then-not-is-finite-2
-returns-then-not-is-finite-2 c = grind (arith, nat_tests) ∙ sym (later_first c.args.bytes.now (cc))
+pub returns-then-not-is_finite-2 : goal.returns-then-not-is_finite-2
+returns-then-not-is_finite-2 c = grind (arith, nat_tests) ∙ sym (later_first c.args.bytes.now (cc))
 
-pub returns-then-not-all-zero : goal.returns-then-not-all-zero
-returns-then-not-all-zero c =
+pub returns-then-not-all_zero : goal.returns-then-not-all_zero
+returns-then-not-all_zero c =
     let e = reserved_read c.args.bytes.now (omega arith) in
     grind (arith, nat_tests) ∙ sym (later_first c.args.bytes.now (cc))
 
-pub returns-else-not-all-zero : goal.returns-else-not-all-zero
-returns-else-not-all-zero c =
+pub returns-else-not-all_zero : goal.returns-else-not-all_zero
+returns-else-not-all_zero c =
     let e = reserved_read c.args.bytes.now (omega arith) in
     grind (arith, nat_tests) ∙ sym (later_first c.args.bytes.now (cc))

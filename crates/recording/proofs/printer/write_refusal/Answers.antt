@@ -7,8 +7,8 @@ returns c =
     let before = vec_items c.args.lines.now in
     let word = codes "refused " in
     let n = decimal c.args.number in
-    let refused = c.in-ok-extend-from-slice.ensures.items in
-    let digits = c.in-ok-push-decimal.ensures in
+    let refused = c.in_ok-extend_from_slice.ensures.items in
+    let digits = c.in_ok-push_decimal.ensures in
     let joined = append_assoc before word n in
-    last_part (is_ok c.extend-from-slice-2.result) before (word ++ n) (10 ∷ []) (vec_items c.push-decimal.new.lines)
-    (vec_items c.extend-from-slice-2.new.self) (cc) c.extend-from-slice-2.ensures.items
+    last_part (is_ok c.extend_from_slice-2.result) before (word ++ n) (10 ∷ []) (vec_items c.push_decimal.new.lines)
+    (vec_items c.extend_from_slice-2.new.self) (cc) c.extend_from_slice-2.ensures.items

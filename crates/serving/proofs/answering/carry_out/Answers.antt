@@ -12,8 +12,8 @@ pub returns : goal.returns
 returns g c = λ r e.
     let records = g.R.Rack.records c.args.rack.now in
     let k = c.args.channel in
-    let q = flagged c.change-of.result r in
+    let q = flagged c.change_of.result r in
     let stores : q ≡ record_after (stored_by (asked_by c.args.command c.args.«data».now) r) r =
-    change_stored c.change-of.result (seen c.of.result) r c.change-of.ensures.some c.change-of.ensures.same ∙ ap (λ (a : Asked). record_after (stored_by a r) r) c.of.ensures in
-    changed_twice records (g.R.Rack.records c.write.new.rack) (g.R.Rack.records c.write-2.new.rack) k r q (flagged c.flag-of.result q) e (c.write.ensures r e) (c.write-2.ensures q)
-    ∙ (ap (λ (o : Option Change). set records k (flagged o q)) c.flag-of.ensures ∙ ap (λ (p : Record). set records k (flagged (flag_for c.args.command) p)) stores)
+    change_stored c.change_of.result (seen c.of.result) r c.change_of.ensures.some c.change_of.ensures.same ∙ ap (λ (a : Asked). record_after (stored_by a r) r) c.of.ensures in
+    changed_twice records (g.R.Rack.records c.write.new.rack) (g.R.Rack.records c.write-2.new.rack) k r q (flagged c.flag_of.result q) e (c.write.ensures r e) (c.write-2.ensures q)
+    ∙ (ap (λ (o : Option Change). set records k (flagged o q)) c.flag_of.ensures ∙ ap (λ (p : Record). set records k (flagged (flag_for c.args.command) p)) stores)

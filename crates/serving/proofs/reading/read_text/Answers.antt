@@ -11,7 +11,7 @@ loop-place-preserved g c = λ r is.
     let lawful = g.met.R.Rack.lawful c.args.rack.now in
     let place = c.loop-place.place in
     let low : place < 45 = omega (arith, c.requires) in
-    elim c.match-text-byte.branch [
+    elim c.match-text_byte.branch [
       | in-Ok w ↦
           let l : place < length c.loop-place.text = omega arith in
           ap (take (place + 1)) w.text-is ∙ text_more records c.args.channel lawful r is place low c.loop-place.text w.in-Ok.byte l w.in-Ok.ensures (c.loop-place.invariant r is)

@@ -15,8 +15,8 @@ returns-then-accepted g c =
     let d = ready c.args.supply records f k r c.others_share.result (g.met.R.Rack.lawful c.args.rack.now) c.requires.sole c.in-Some.ensures c.others_share.ensures in
     let n = c.in-Ok.answer in
     let s = c.in-Ok.ensures.responds in
-    let after = g.R.Rack.records c.carry-out.new.rack in
-    let w = accepted_records c.args.supply records x f k r c.respond.new.«record» (record { supply = c.args.supply; others = c.others_share.result }) c.args.out.now c.respond.new.out (Ok n) d c.requires.room c.requires.framed s after c.if-accepted.ensures (c.carry-out.ensures r) in
+    let after = g.R.Rack.records c.carry_out.new.rack in
+    let w = accepted_records c.args.supply records x f k r c.respond.new.«record» (record { supply = c.args.supply; others = c.others_share.result }) c.args.out.now c.respond.new.out (Ok n) d c.requires.room c.requires.framed s after c.if-accepted.ensures (c.carry_out.ensures r) in
     let t = facts c.args.supply records x f k r c.respond.new.«record» (record { supply = c.args.supply; others = c.others_share.result }) c.args.out.now c.respond.new.out (Ok n) d c.requires.room c.requires.framed s n after refl w in
     record { length = t.0; buffer = t.1; records = t.2 }
 

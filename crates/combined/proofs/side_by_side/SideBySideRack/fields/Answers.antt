@@ -7,12 +7,12 @@ pub returns-in-Left : goal.returns-in-Left
 returns-in-Left g c =
     let l = g.L.Rack.records c.args.self.now.left in
     let r = g.R.Rack.records c.args.self.now.right in
-    let way = routed_left l r c.args.channel c.count.result c.in-ok-channel.field-0 c.in-Left.channel c.count.ensures c.in-ok-channel.ensures c.in-Left.is in
+    let way = routed_left l r c.args.channel c.count.result c.in_ok-channel.field-0 c.in-Left.channel c.count.ensures c.in_ok-channel.ensures c.in-Left.is in
     c.fields.ensures ∙ ap (answered (λ x. Ok x.fields)) (sym way.found)
 
 pub returns-in-Right : goal.returns-in-Right
 returns-in-Right g c =
     let l = g.L.Rack.records c.args.self.now.left in
     let r = g.R.Rack.records c.args.self.now.right in
-    let way = routed_right l r c.args.channel c.count.result c.in-ok-channel.field-0 c.in-Right.channel c.count.ensures c.in-ok-channel.ensures c.in-Right.is in
+    let way = routed_right l r c.args.channel c.count.result c.in_ok-channel.field-0 c.in-Right.channel c.count.ensures c.in_ok-channel.ensures c.in-Right.is in
     c.fields-in-Right.ensures ∙ ap (answered (λ x. Ok x.fields)) (sym way.found)

@@ -12,5 +12,5 @@ kept bytes marks span n m e s k = rw (s, k, e) refl
 pub returns : goal.returns
 returns c =
     let bytes = c.args.bytes.now in
-    let n = c.count-preambles-preambles.result in
-    kept bytes c.args.marks.now (take (length bytes - n) (drop n bytes)) n c.marks-from-marks.result c.count-preambles-preambles.ensures.value (take_rest bytes n) c.marks-from-marks.ensures
+    let n = c.count_preambles-preambles.result in
+    kept bytes c.args.marks.now (take (length bytes - n) (drop n bytes)) n c.marks_from-marks.result c.count_preambles-preambles.ensures.value (take_rest bytes n) c.marks_from-marks.ensures

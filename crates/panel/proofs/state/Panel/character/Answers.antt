@@ -5,8 +5,8 @@ use Rattle.panel.specs.Panels.{outcome_for}
 use Rattle.panel.proofs.Doing.{does, comes, taken_character, refused_character}
 use Rattle.panel.proofs.state.Panel.character.Goals as goal
 
-pub returns-then-marks-gt-MOST-MARKS : goal.returns-then-marks-gt-MOST-MARKS
-returns-then-marks-gt-MOST-MARKS g c =
+pub returns-then-marks-gt-MOST_MARKS : goal.returns-then-marks-gt-MOST_MARKS
+returns-then-marks-gt-MOST_MARKS g c =
     let p = c.args.self.now in
     let rs = g.R.Rack.records p.rack in
     let l : 7 < c.args.marks = omega arith in

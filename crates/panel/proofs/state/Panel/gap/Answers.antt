@@ -6,8 +6,8 @@ use Rattle.panel.proofs.Doing.{does, comes}
 use Rattle.panel.proofs.Results.{gap_result, gap_bound, buffer_is, gap_does, short_gap}
 use Rattle.panel.proofs.state.Panel.gap.Goals as goal
 
-pub returns-then-out-lt-MOST-ANSWER : goal.returns-then-out-lt-MOST-ANSWER
-returns-then-out-lt-MOST-ANSWER g c =
+pub returns-then-out-lt-MOST_ANSWER : goal.returns-then-out-lt-MOST_ANSWER
+returns-then-out-lt-MOST_ANSWER g c =
     let p = c.args.self.now in
     let rs = g.R.Rack.records p.rack in
     let n = length c.args.out.now in

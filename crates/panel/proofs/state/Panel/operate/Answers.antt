@@ -33,7 +33,7 @@ returns-in-Err g c =
       does = λ u e.
           operated p.supply rs (g.R.Rack.records c.write.new.self) p.receiver k u up
           (c.write.ensures.after ∙ ap (λ (x : Change). records_after (written_at rs k x) rs k) e)
-          (refused (number_of c.call-refusal.result))
-          (refused_by_lem rs k u (rack.number_of c.in-Err.refusal) (number_of c.call-refusal.result) (c.in-Err.ensures.answer ∙ ap (λ (x : Change). answer_of (written_at rs k x)) e) c.call-refusal.ensures);
+          (refused (number_of c.call_refusal.result))
+          (refused_by_lem rs k u (rack.number_of c.in-Err.refusal) (number_of c.call_refusal.result) (c.in-Err.ensures.answer ∙ ap (λ (x : Change). answer_of (written_at rs k x)) e) c.call_refusal.ensures);
       same = λ _. ap {B = Panel g.row.R.Denot} (λ q. record { rack = q; receiver = p.receiver; supply = p.supply }) (c.in-Err.ensures.same refl);
     }

@@ -2,8 +2,8 @@ use Rattle.std.proofs.Common.{◌+◌, [], ◌∷◌, take, set, arith}
 use Rattle.recording.proofs.Cuts.{cut_anywhere, continues, kept_short, kept_complete}
 use Rattle.recording.proofs.pending.Pending.push.Goals as goal
 
-pub returns-then-self-lt-EVENT-LENGTH : goal.returns-then-self-lt-EVENT-LENGTH
-returns-then-self-lt-EVENT-LENGTH c =
+pub returns-then-self-lt-EVENT_LENGTH : goal.returns-then-self-lt-EVENT_LENGTH
+returns-then-self-lt-EVENT_LENGTH c =
     let bytes = c.args.self.now.bytes in
     let n = c.args.self.now.len in
     let byte = c.args.byte in

@@ -14,10 +14,10 @@ use Rattle.shelf.proofs.shelf.Shelf.blank.Goals as goal
 held : (b : Record) (row : List ℕ) → b ≡ blank_record → (Lawful b → ReadsBack b row) → decoded row ≡ blank_record
 held b row e back = (back (subst Lawful (sym e) ((law_decided blank_record).0 blank_lawful))).same ∙ e
 
-pub invariant-of-result : goal.invariant-of-result
-invariant-of-result c =
-    let same = held c.blank-record.result c.encode-row.result c.blank-record.ensures c.encode-row.ensures.back in
-    (omega arith, (omega arith, (refl, (lawful_one (decoded c.encode-row.result) (subst (λ (r : Record). lawful? r ≡ true) (sym same) blank_lawful), tt))))
+pub invariant_of-result : goal.invariant_of-result
+invariant_of-result c =
+    let same = held c.blank_record.result c.encode-row.result c.blank_record.ensures c.encode-row.ensures.back in
+    record { some = omega arith; few = omega arith; room = refl; lawful = lawful_one (decoded c.encode-row.result) (subst (λ (r : Record). lawful? r ≡ true) (sym same) blank_lawful) }
 
 pub returns : goal.returns
-returns c = ap (λ (r : Record). r ∷ []) (held c.blank-record.result c.encode-row.result c.blank-record.ensures c.encode-row.ensures.back)
+returns c = ap (λ (r : Record). r ∷ []) (held c.blank_record.result c.encode-row.result c.blank_record.ensures c.encode-row.ensures.back)

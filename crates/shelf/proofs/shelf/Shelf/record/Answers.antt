@@ -10,4 +10,4 @@ returns-then-row-self c =
 pub returns : goal.returns
 returns c =
     let s = c.args.self.now in
-    ap Some c.record-at.ensures ∙ sym (channel_row s.rows s.count s.few s.room c.args.channel (omega arith))
+    ap Some c.record_at.ensures ∙ sym (channel_row s.rows s.count s.few s.room c.args.channel (omega arith))

@@ -8,8 +8,8 @@ use Rattle.shelf.specs.Rows.{records_in}
 use Rattle.shelf.specs.RowsLemmas.{all_lawful, set_row, lawful_set}
 use Rattle.shelf.proofs.shelf_rack.ShelfRack.write.Goals as goal
 
-pub invariant-of-self : goal.invariant-of-self
-invariant-of-self c =
+pub invariant_of-self : goal.invariant_of-self
+invariant_of-self c =
     let s = c.args.self.now in
     let records = records_in s.count s.rows in
     let r = c.apply.new.«record» in
@@ -17,7 +17,12 @@ invariant-of-self c =
     let l = length-set s.rows c.args.channel c.encode.result in
     let few = s.few in
     let room = s.room in
-    (s.some, (omega arith, (omega arith, (rw (set_row s.rows s.count c.args.channel c.encode.result r (c.encode.ensures.back lawful).same) (lawful_set records c.args.channel r s.lawful lawful), tt))))
+    record {
+      some = s.some;
+      few = omega arith;
+      room = omega arith;
+      lawful = rw (set_row s.rows s.count c.args.channel c.encode.result r (c.encode.ensures.back lawful).same) (lawful_set records c.args.channel r s.lawful lawful);
+    }
 
 pub returns : goal.returns
 returns c =
@@ -27,7 +32,7 @@ returns c =
     let r = c.apply.new.«record» in
     let lawful : Lawful r = c.apply.ensures.lawful (channel_lawful records c.args.channel old (all_lawful records s.lawful) (sym c.in-Some.ensures)) in
     let w : written c.args.change old ≡ written_at records c.args.channel c.args.change = ap (answered (written c.args.change)) c.in-Some.ensures in
-    let a = c.in-ok-apply.ensures.answer in
+    let a = c.in_ok-apply.ensures.answer in
     record {
       answer = a ∙ ap answer_of w;
       after = set_row s.rows s.count c.args.channel c.encode.result r (c.encode.ensures.back lawful).same ∙ (rw (← w) (accepted_after (written c.args.change old) r old records c.args.channel a c.apply.ensures.after));
