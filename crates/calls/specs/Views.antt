@@ -1,5 +1,4 @@
 -- Calls and their outcomes as the events of a trace.
-use Rattle.std.specs.Prelude.{List, ℕ}
 use Rattle.refusals.specs.Refusals.{number_of}
 use Rattle.runs.specs.Channel.{channel, sample, key}
 use Rattle.runs.specs.Traces as traces

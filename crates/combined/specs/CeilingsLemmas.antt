@@ -4,7 +4,7 @@ use Rattle.std.proofs.Common.{inl, inr, sym, ap, ◌∙◌, arith}
 use Rattle.std.specs.Float.Ieee.{lt}
 use Rattle.std.specs.Float.{float_is_finite}
 use Rattle.std.specs.Option.{option_map}
-use Rattle.std.specs.List.{AllByRecursion as All}
+use Rattle.std.specs.List.{AllByRecursion}
 use Rattle.std.proofs.ByRecursion.{All-map, All-weaker}
 use Rattle.std.proofs.lemmas.List.{map-set, length-map}
 use Rattle.std.proofs.lemmas.Bool.{cases_lt, lt-ltb, le-ltb}
@@ -74,7 +74,7 @@ lowered_lawful p r h = record {
   text = h.text;
 }
 
-pub all_lowered : (p : ℕ) (records : List Record) → All Lawful records → All Lawful (lowered_all p records)
+pub all_lowered : (p : ℕ) (records : List Record) → AllByRecursion Lawful records → AllByRecursion Lawful (lowered_all p records)
 all_lowered p records h = All-map Lawful (lowered p) records (All-weaker Lawful (λ r. Lawful (lowered p r)) (lowered_lawful p) records h)
 
 -- WRITES

@@ -1,6 +1,6 @@
 -- Worked examples about the definitions: one list of rows, and what each row says.
 use Rattle.std.specs.Prelude.{◌≡◌, ℕ, true, List, [], ◌∷◌, Some, None, Ok, Err, codes, Option, Result}
-use Rattle.std.specs.List.{AllByRecursion as All}
+use Rattle.std.specs.List.{AllByRecursion}
 use Rattle.frame.specs.Making.{request?, asked, transmission}
 use Rattle.frame.specs.Transmissions.{Request, read_request}
 use Rattle.setpoint.specs.Load.{has_load, load_of}
@@ -53,4 +53,4 @@ rows =
 
 -- every row holds
 abbrev pub Edges : Type 0
-Edges = All Holds rows
+Edges = AllByRecursion Holds rows

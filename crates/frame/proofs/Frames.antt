@@ -3,7 +3,7 @@ use Rattle.std.proofs.Common.{◌≡◌, ℕ, ◌+◌, ◌<◌, ◌≤◌, Bool,
 use Rattle.std.proofs.lemmas.Bool.{and_parts, and_from, eqb-true, eq-eqb, leb-true, le-leb, cases_Bool}
 use Rattle.std.proofs.lemmas.List.{take_more, take_all, take_at, drop_at, get_or_at, get_or-drop, drop-drop, get_or-append-add, take-append-drop, length-take-le}
 use Rattle.std.proofs.ByRecursion.{All-get_or}
-use Rattle.std.specs.List.{AllByRecursion as All}
+use Rattle.std.specs.List.{AllByRecursion}
 use Rattle.frame.specs.Frames.{Parts, Framed, StartFrame, RequestFrame, frame_after, frame_at, start_frame, request_frame}
 
 -- what follows the address, spelled out
@@ -116,10 +116,10 @@ module _ (start w : ℕ) (span : List ℕ) (f : Parts) (h : Framed start w span 
       rw i (ap (λ s. get_or s (length (start ∷ f.address) + 1) 0) (h.spelled ∙ regroup start f) ∙ get_or-append-add (start ∷ f.address) (tail f) 1 0)
 
   -- the count is a byte
-  pub data_limit : All (λ b. b < 256) span → length f.«data» < 256
+  pub data_limit : AllByRecursion (λ b. b < 256) span → length f.«data» < 256
   data_limit bytes = omega (arith, length_framed, All-get_or (λ b. b < 256) span (length f.address + 2) 0 (omega (arith, length_framed, h.wide)) bytes, framed_count)
 
 -- a list of bytes that is a request's frame has at most 264
-pub request_limit : (span : List ℕ) (f : Parts) → All (λ b. b < 256) span → RequestFrame span f → length span ≤ 264
+pub request_limit : (span : List ℕ) (f : Parts) → AllByRecursion (λ b. b < 256) span → RequestFrame span f → length span ≤ 264
 request_limit span f b (inl h) = omega (arith, length_framed 2 1 span f h, data_limit 2 1 span f h b)
 request_limit span f b (inr h) = omega (arith, length_framed 130 5 span f h, data_limit 130 5 span f h b)

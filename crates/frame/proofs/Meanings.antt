@@ -1,6 +1,6 @@
 -- What the relations say of an answer that equals the reading by places.
 use Rattle.std.proofs.Common.{◌≡◌, ℕ, ◌<◌, ◌≤◌, eqb, leb, ◌⊎◌, List, length, drop, IfOk, Ok, Err, Result, sym, refl, ap, ◌∙◌, inl, inr, arith, MatchResult}
-use Rattle.std.specs.List.{AllByRecursion as All}
+use Rattle.std.specs.List.{AllByRecursion}
 use Rattle.std.proofs.lemmas.Bool.{and_from, and_right, le-leb, lt-leb, eq-eqb, ne_eqb, cond-true, cond-false}
 use Rattle.refusals.specs.declared.Refusal.{Refusal}
 use Rattle.frame.specs.declared.Frame.{Frame}
@@ -20,7 +20,7 @@ pub frame_means : (r : Result Frame Refusal) (span : List ℕ) → viewed frame_
 frame_means (Ok f) span e = read_request_lem span (frame_parts f) (sym e)
 frame_means (Err k) span e = λ p h. clash p _ (request_frame span) (request_read span p h) e
 
-pub frame_limit : (r : Result Frame Refusal) (span : List ℕ) → All (λ b. b < 256) span → viewed frame_parts r ≡ request_frame span → IfOk r (λ _. length span ≤ 264)
+pub frame_limit : (r : Result Frame Refusal) (span : List ℕ) → AllByRecursion (λ b. b < 256) span → viewed frame_parts r ≡ request_frame span → IfOk r (λ _. length span ≤ 264)
 frame_limit (Ok f) span b e = request_limit span (frame_parts f) b (read_request_lem span (frame_parts f) (sym e))
 frame_limit (Err k) span b e = tt
 
@@ -28,7 +28,7 @@ pub request_means : (r : Result Transmission Refusal) (bytes : List ℕ) → vie
 request_means (Ok t) bytes e = reads (request_parts t) bytes (sym e)
 request_means (Err k) bytes e = λ q h. clash q _ (read_request bytes) (complete q bytes h) e
 
-pub request_again : (r : Result Transmission Refusal) (bytes : List ℕ) → All (λ b. b < 256) bytes → viewed request_parts r ≡ read_request bytes → IfOk r (λ t. t.preambles ≤ 20 → MadeAgain bytes (request_parts t))
+pub request_again : (r : Result Transmission Refusal) (bytes : List ℕ) → AllByRecursion (λ b. b < 256) bytes → viewed request_parts r ≡ read_request bytes → IfOk r (λ t. t.preambles ≤ 20 → MadeAgain bytes (request_parts t))
 request_again (Ok t) bytes b e = made_again (request_parts t) bytes b (reads (request_parts t) bytes (sym e))
 request_again (Err k) bytes b e = tt
 

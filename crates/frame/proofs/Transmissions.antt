@@ -10,7 +10,7 @@ use Rattle.frame.specs.Check.{check_of}
 use Rattle.frame.specs.Frames.{Parts, Framed, StartFrame, request_frame}
 use Rattle.frame.specs.Transmissions.{preambles_of, span_of, Request, Sent, Transmits, request_of, read_span, read_request}
 use Rattle.frame.specs.Making.{request?, start_for, checked, frame_bytes, sent, MadeAgain}
-use Rattle.std.specs.List.{AllByRecursion as All}
+use Rattle.std.specs.List.{AllByRecursion}
 use Rattle.frame.proofs.Frames.{request_read, read_request_lem, data_limit}
 
 -- the preambles before bytes that begin with none
@@ -121,13 +121,13 @@ sends short long q h =
     }
 
 -- at either width: the start byte that the maker takes is the one that stands there
-module _ (q : Request) (bytes : List ℕ) (b : All (λ b. b < 256) bytes) (h : Transmits q bytes) (few : q.preambles ≤ 20)
+module _ (q : Request) (bytes : List ℕ) (b : AllByRecursion (λ b. b < 256) bytes) (h : Transmits q bytes) (few : q.preambles ≤ 20)
     (start w : ℕ) (starts : start_for 2 130 w ≡ start) (known : (w ≡ 1) ⊎ (w ≡ 5)) (f : Framed start w h.span (parts_with q h.check)) where
   again_at : MadeAgain bytes q
   again_at =
       let bare = start ∷ q.address ++ q.command ∷ length q.«data» ∷ q.«data» in
       let c : check_of bare ≡ h.check = sound_checked bare h.check (ap check_of (sym f.spelled) ∙ h.sound) in
-      let bs : All (λ b. b < 256) h.span = rw (← span_led q.preambles h.span, ← h.spelled) (All-drop (λ b. b < 256) q.preambles bytes b) in
+      let bs : AllByRecursion (λ b. b < 256) h.span = rw (← span_led q.preambles h.span, ← h.spelled) (All-drop (λ b. b < 256) q.preambles bytes b) in
       let l = data_limit start w h.span (parts_with q h.check) f bs in
       let e = f.wide in
       let m = h.led in
@@ -136,7 +136,7 @@ module _ (q : Request) (bytes : List ℕ) (b : All (λ b. b < 256) bytes) (h : T
         same = rw (f.wide, starts, c, h.spelled, f.spelled) refl;
       }
 
-pub made_again : (q : Request) (bytes : List ℕ) → All (λ b. b < 256) bytes → Transmits q bytes → q.preambles ≤ 20 → MadeAgain bytes q
+pub made_again : (q : Request) (bytes : List ℕ) → AllByRecursion (λ b. b < 256) bytes → Transmits q bytes → q.preambles ≤ 20 → MadeAgain bytes q
 made_again q bytes b h few = elim h.framed [
   | inl f ↦ again_at q bytes b h few 2 1 refl (inl refl) f
   | inr f ↦ again_at q bytes b h few 130 5 refl (inr refl) f

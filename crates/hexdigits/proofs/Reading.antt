@@ -1,7 +1,7 @@
 -- The reading of hexadecimal text, one byte after another.
 use Rattle.std.proofs.Common.{◌≡◌, ℕ, ◌+◌, ◌*◌, ◌/◌, ◌%◌, ◌<◌, ◌≤◌, List, [], ◌∷◌, ◌++◌, length, get_or, drop, Some, None, Option, sym, refl, ap, ◌∙◌, append_assoc, arith}
 use Rattle.std.proofs.lemmas.List.{drop_more, at_drop_all, append-nil}
-use Rattle.std.specs.List.{AllByRecursion as All}
+use Rattle.std.specs.List.{AllByRecursion}
 use Rattle.std.proofs.lemmas.Bool.Decides.{nat_tests}
 use Rattle.hexdigits.specs.Hex.{digit_of, hex_of, value_of, byte_of, before, bytes_of}
 
@@ -57,6 +57,6 @@ pair_back b h =
     let low : value_of (digit_of (b % 16)) ≡ Some (b % 16) = digit_back (b % 16) (omega arith) in
     rw (high, low) (ap Some (omega arith))
 
-pub hex_back : (bytes : List ℕ) → All (λ b. b < 256) bytes → bytes_of (hex_of bytes) ≡ Some bytes
+pub hex_back : (bytes : List ℕ) → AllByRecursion (λ b. b < 256) bytes → bytes_of (hex_of bytes) ≡ Some bytes
 hex_back [] h = refl
 hex_back (b ∷ bytes) h = rw (pair_back b h.0, hex_back bytes h.1) refl

@@ -1,10 +1,9 @@
 -- An answer that was made into a lent buffer is the one that the definitions say, and keeps the law of answers.
-use Rattle.std.proofs.Common.{◌≡◌, ℕ, ◌+◌, ◌≤◌, Bool, true, ltb, ◌⊎◌, List, ◌∷◌, ◌++◌, length, get_or, take, drop, Some, None, Ok, Err, Option, Result, sym, refl, ap, ◌∙◌, subst, inl, inr, arith, length-take}
+use Rattle.std.proofs.Common.{◌≡◌, ℕ, ◌+◌, ◌≤◌, true, ◌⊎◌, List, ◌++◌, length, get_or, take, drop, Some, None, Ok, Err, Result, sym, refl, ap, ◌∙◌, subst, inl, inr, arith, length-take}
 use Rattle.std.proofs.lemmas.Bool.{le-ltb, le-leb}
-use Rattle.std.proofs.lemmas.List.{take_at}
 use Rattle.std.proofs.lemmas.Bool.Decides.{nat_tests}
 use Rattle.refusals.specs.Filling.{Fills}
-use Rattle.frame.specs.Frames.{Parts, Framed, RequestFrame, ReplyFrame}
+use Rattle.frame.specs.Frames.{Parts, RequestFrame, ReplyFrame}
 use Rattle.frame.specs.Making.{request?, asked, reply_transmission}
 use Rattle.frame.specs.Transmissions.{Request, Replies}
 use Rattle.frame.proofs.Frames.{framed_start, framed_count}
@@ -12,7 +11,7 @@ use Rattle.frame.proofs.Transmissions.{length_sent}
 use Rattle.record.specs.Lawful.{Lawful, is_lawful}
 use Rattle.record.specs.declared.Record.{Record}
 use Rattle.line.specs.Addressing.{means}
-use Rattle.line.specs.Answers.{Outcome, carried, outcome, answer_bytes, AnswerLaw}
+use Rattle.line.specs.Answers.{Outcome, carried, outcome, AnswerLaw}
 use Rattle.line.specs.Characters.{Reception}
 use Rattle.line.specs.Responses.{Responds, refusal_for}
 use Rattle.line.specs.Whole.{frame_of}

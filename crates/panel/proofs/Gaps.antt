@@ -1,7 +1,7 @@
 -- A gap serves just what the run relation says.
 use Rattle.std.proofs.Common.{◌≡◌, ℕ, ◌+◌, ◌<◌, ◌≤◌, min, Bool, true, false, cond, ◌&&◌, ltb, leb, List, [], ◌∷◌, map, length, take, set, Some, None, Option, sym, refl, ap, ◌∙◌, subst, inl, inr, arith}
 use Rattle.std.specs.Result.{result_ok}
-use Rattle.std.specs.List.{AllByRecursion as All}
+use Rattle.std.specs.List.{AllByRecursion}
 use Rattle.std.proofs.ByRecursion.{All-drop}
 use Rattle.std.proofs.lemmas.List.{take_all}
 use Rattle.std.proofs.lemmas.Bool.{cases_Bool, cases_lt, le-leb, lt-leb, le-ltb, ltb-true, ltb-false, leb-true, cond-true, cond-false}
@@ -110,18 +110,18 @@ module _ (supply : ℕ) (rs : List Record) (x : Reception) where
   low_served = ap (λ b. served_frame supply rs (low x) (cond b (result_ok (request_frame x.span)) None)) (two x.preambles) ∙ low_frame (frame_of x)
 
 -- more than 264 bytes are no frame
-bytes_all : (t : List Character) → All (λ c. c.byte < 256) t → All (λ b. b < 256) (bytes_in t)
+bytes_all : (t : List Character) → AllByRecursion (λ c. c.byte < 256) t → AllByRecursion (λ b. b < 256) (bytes_in t)
 bytes_all [] a = tt
 bytes_all (c ∷ t) a = (a.0, bytes_all t a.1)
 
-long_none : (t : List Character) → All (λ c. c.byte < 256) t → 264 < length (span_of (bytes_in t)) → (o : Option Parts) → frame_in t ≡ o → o ≡ None
+long_none : (t : List Character) → AllByRecursion (λ c. c.byte < 256) t → 264 < length (span_of (bytes_in t)) → (o : Option Parts) → frame_in t ≡ o → o ≡ None
 long_none t a l (Some f) e =
     let h = request_limit (span_of (bytes_in t)) f (All-drop (λ b. b < 256) (preambles_of (bytes_in t)) (bytes_in t) (bytes_all t a)) (whole_frame t f e).1 in
     absurd (omega arith)
 long_none t a l None e = refl
 
 -- what is kept of a transmission serves as the transmission does
-kept_served : (supply : ℕ) (rs : List Record) (t : List Character) → All (λ c. c.byte < 256) t → served_reception supply rs (reception (summary_of (received t))) ≡ served supply rs (received t)
+kept_served : (supply : ℕ) (rs : List Record) (t : List Character) → AllByRecursion (λ c. c.byte < 256) t → served_reception supply rs (reception (summary_of (received t))) ≡ served supply rs (received t)
 kept_served supply rs t a = elim (cases_Bool (ltb 264 (length (span_of (bytes_in t))))) [
   | inl b ↦ rw b (ap (served_frame supply rs (received t)) (sym (long_none t a (ltb-true 264 (length (span_of (bytes_in t))) b) (frame_in t) refl)))
   | inr b ↦

@@ -1,7 +1,7 @@
 -- Samples and key turns, by what the rack answers.
 use Rattle.std.proofs.Common.{◌≡◌, ℕ, ◌≤◌, Bool, true, false, cond, ◌&&◌, leb, List, [], ◌∷◌, length, set, is_some, Some, None, Ok, Err, Option, sym, refl, ap, ◌∙◌, subst, true≢false, arith}
 use Rattle.std.specs.Result.{result_err}
-use Rattle.std.specs.declared.result.Result as std
+use Rattle.std.specs.declared.result.Result as results
 use Rattle.std.proofs.lemmas.Bool.{le-leb, leb-true, cond-true}
 use Rattle.line.specs.Characters.{Character}
 use Rattle.rack.specs.Changes.{written, answer_of, record_after}
@@ -20,11 +20,11 @@ use Rattle.panel.proofs.Doing.{Comes, does}
 use Rattle.panel.proofs.Places.{element_channel, channels_few}
 
 -- a rack's answer as a result
-abbrev pub rack_result : std.Result (Unit {0}) ℕ → Result channel
+abbrev pub rack_result : results.Result (Unit {0}) ℕ → Result channel
 rack_result (Ok u) = taken
 rack_result (Err n) = refused n
 
-local_result_lem : (w : std.Result Record ℕ) → rack_result (answer_of w) ≡ local_result (result_err w)
+local_result_lem : (w : results.Result Record ℕ) → rack_result (answer_of w) ≡ local_result (result_err w)
 local_result_lem (Ok r) = refl
 local_result_lem (Err n) = refl
 

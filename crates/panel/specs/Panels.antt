@@ -1,6 +1,6 @@
 -- What a call on a panel does.
 use Rattle.std.specs.Prelude.{◌≡◌, ℕ, ◌≤◌, cond, List, [], ◌++◌, length, take, drop, Some, None, Ok, Err, Option, nat_le, nat_lt}
-use Rattle.std.specs.declared.result.Result as std
+use Rattle.std.specs.declared.result.Result as results
 use Rattle.header.specs.Shares.{capacity_of}
 use Rattle.line.specs.Characters.{Character, Reception}
 use Rattle.receiver.specs.Holding.{Holds}
@@ -48,12 +48,12 @@ pub record Does (supply supply' : Option ℕ) (records records' : List Record) (
       → Step channel (capacity_of n) records t (c ▸ result) records' (outcome_for supply records t c).line
 
 -- a call's answer as the result of a trace
-abbrev pub result_of : std.Result (Unit {0}) Refusal → Result channel
+abbrev pub result_of : results.Result (Unit {0}) Refusal → Result channel
 result_of (Ok u) = taken
 result_of (Err e) = refused (number_of e)
 
 -- a gap's, with the buffer after it
-abbrev pub gap_result_of : std.Result Gap Refusal → List ℕ → Result channel
+abbrev pub gap_result_of : results.Result Gap Refusal → List ℕ → Result channel
 gap_result_of (Ok Silent) buffer = silent
 gap_result_of (Ok (Answered k n)) buffer = answered k (take n buffer)
 gap_result_of (Err e) buffer = refused (number_of e)
@@ -90,7 +90,7 @@ pub record Begun (supply : Option ℕ) (x : Receiver) (n : ℕ) : Type 0 where
   pub holds : Holds x []
 
 -- what a look at a channel answers: 101 where there is none, then 102 where the buffer has under 80 bytes
-abbrev pub look_record : List ℕ → Option Record → std.Result (Unit {0}) ℕ
+abbrev pub look_record : List ℕ → Option Record → results.Result (Unit {0}) ℕ
 look_record buffer (Some r) = cond (nat_lt (length buffer) 80) (Err 102) (Ok tt)
 look_record buffer None = Err 101
 

@@ -91,6 +91,10 @@ impl<T: Tape + Drop> Player<T> {
 impl<T: Tape + Drop> Driver for Player<T> {
     ghost told = { λ d h. Told d.lost d.lines.items h };
 
+    ghost named = { λ d h c. Told d.lost d.lines.items h };
+
+    ghost ended = { λ d h. Told d.lost d.lines.items h };
+
     // The call of the next event that is one. At the end a partial event counts as a wrong number of records.
     fn next(&mut self) -> Option<Call> {
         for _ in 0..u64::MAX {

@@ -3,6 +3,7 @@ ghost use Rattle.std.specs.Option.{option_map};
 ghost use Rattle.std.specs.Result.{result_err};
 ghost use Rattle.rack.specs.Files.{file_answer, file_records};
 ghost use Rattle.setup.specs.SetUps.{set_up_refusal};
+ghost use Rattle.panel.specs.Working.{Finished};
 ghost use Rattle.player.specs.Playing.{play_refusal, fault_seen, play_fault, Played};
 ghost use Rattle.player.specs.declared.playing.PlayFault.TheVariants.{File, SetUp};
 
@@ -53,7 +54,7 @@ impl From<Refusal> for PlayFault {
 // Plays a recording: a driver works a panel over the shelf of a record file, under a supply in mL/min.
 pub fn play<D: Driver>(file: &[u8], supply: u32, driver: &mut D) -> Result<(), PlayFault>
     ensures fault { option_map fault_seen (result_err result) ≡ play_fault (file_answer 15 file.now) (set_up_refusal supply (file_records file.now)) }
-    ensures played { OnOk result (Played supply (file_records file.now) (D.Driver.told driver.old) (D.Driver.told driver.new)) }
+    ensures played { OnOk result (Played supply (file_records file.now) (D.Driver.told driver.old) (Finished (D.Driver.ended driver.new) (D.Driver.told driver.new))) }
 {
     let mut shelf = Shelf::blank();
     shelf.fill(file)?;

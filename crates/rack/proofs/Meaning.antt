@@ -1,6 +1,6 @@
 -- Records of a list by their channels, and writes to them.
 use Rattle.std.proofs.Common.{◌≡◌, ℕ, zero, suc, Bool, true, false, cond, ◌&&◌, ltb, leb, List, [], ◌∷◌, set, Some, None, Ok, Err, Option, Result, refl, ap, subst, arith}
-use Rattle.std.specs.List.{AllByRecursion as All}
+use Rattle.std.specs.List.{AllByRecursion}
 use Rattle.record.specs.Lawful.{Lawful}
 use Rattle.record.specs.declared.Record.{Record}
 use Rattle.rack.specs.Changes.{answer_of, record_after}
@@ -16,7 +16,7 @@ pub accepted_after : (w : Result Record ℕ) (r old : Record) (records : List Re
 accepted_after (Ok x) r old records channel e k = ap (set records channel) k
 accepted_after (Err m) r old records channel e k = let z : ◌≡◌ {A = ℕ} 0 1 = cc in absurd (omega arith)
 
-record_lawful : (records : List Record) (n : ℕ) (r : Record) → All Lawful records → record_at records n ≡ Some r → Lawful r
+record_lawful : (records : List Record) (n : ℕ) (r : Record) → AllByRecursion Lawful records → record_at records n ≡ Some r → Lawful r
 record_lawful [] n r h e = let z : ◌≡◌ {A = ℕ} 0 1 = cc in absurd (omega arith)
 record_lawful (x ∷ records) zero r h e = let same : x ≡ r = cc in subst Lawful same h.0
 record_lawful (x ∷ records) (suc n) r h e = record_lawful records n r h.1 e
@@ -26,5 +26,5 @@ from_cond true o r e = e
 from_cond false o r e = let z : ◌≡◌ {A = ℕ} 0 1 = cc in absurd (omega arith)
 
 -- the record of a channel is lawful
-pub channel_lawful : (records : List Record) (c : ℕ) (r : Record) → All Lawful records → channel_of records c ≡ Some r → Lawful r
+pub channel_lawful : (records : List Record) (c : ℕ) (r : Record) → AllByRecursion Lawful records → channel_of records c ≡ Some r → Lawful r
 channel_lawful records c r h e = record_lawful records c r h (from_cond (ltb c (told records) && leb c 14) (record_at records c) r e)

@@ -1,5 +1,5 @@
 ghost use Rattle.std.specs.Prelude.{◌≡◌, false, List, is_ok};
-ghost use Rattle.std.specs.List.{AllByRecursion as All};
+ghost use Rattle.std.specs.List.{AllByRecursion};
 ghost use Rattle.record.specs.Lawful.{Lawful};
 ghost use Rattle.record.specs.declared.Record.{Record as ChannelRecord};
 ghost use Rattle.rack.specs.Changes.{answer_of};
@@ -34,5 +34,5 @@ pub trait Rack {
         ensures after { records self.new ≡ records_after (written_at (records self.old) channel change.entry) (records self.old) channel }
         ensures same { is_ok result ≡ false → self.new ≡ self.old };
 
-    ghost lawful: { (x : Self) → All Lawful (records x) };
+    ghost lawful: { (x : Self) → AllByRecursion Lawful (records x) };
 }

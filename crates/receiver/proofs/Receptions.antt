@@ -1,11 +1,9 @@
 -- One character more is received as the summary is pushed.
-use Rattle.std.proofs.Common.{◌≡◌, ℕ, suc, ◌+◌, ◌<◌, ◌≤◌, min, Bool, true, false, cond, ◌&&◌, eqb, ltb, List, [], ◌∷◌, ◌++◌, map, length, take, drop, fold, sym, refl, ap, ◌∙◌, inl, inr, arith, length-append, length-take}
-use lib.Bits.{bit_or, or_zero_l}
-use Rattle.std.specs.List.{AllByRecursion as All}
+use Rattle.std.proofs.Common.{◌≡◌, ℕ, suc, ◌+◌, ◌<◌, ◌≤◌, min, Bool, true, false, cond, ◌&&◌, eqb, ltb, List, [], ◌∷◌, ◌++◌, map, length, take, fold, sym, refl, ap, ◌∙◌, inl, inr, arith, length-append, length-take}
+use lib.Bits.{bit_or}
 use Rattle.std.proofs.lemmas.Bool.{cases_Bool, cases_lt, ne_eqb, lt-ltb, le-ltb, cond-true, cond-false}
 use Rattle.std.proofs.lemmas.List.{take_all, take-append-le, length-take-le, map-append}
 use Rattle.std.proofs.lemmas.List.Sums.{fold_push}
-use Rattle.frame.specs.Transmissions.{preambles_of, span_of}
 use Rattle.line.specs.Characters.{Character, Reception, received}
 use Rattle.receiver.specs.Summaries.{Summary, summary_of, more, pushed}
 

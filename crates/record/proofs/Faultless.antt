@@ -1,6 +1,6 @@
 -- Bytes without a fault are those whose fields are in range.
 use Rattle.std.proofs.Common.{◌≡◌, ℕ, ◌≤◌, Bool, true, false, ltb, List, [], ◌∷◌, ◌++◌, length, get_or, take, drop, Some, None, refl, ap, inl, inr, arith}
-use Rattle.std.specs.List.{AllByRecursion as All}
+use Rattle.std.specs.List.{AllByRecursion}
 use Rattle.std.proofs.lemmas.List.{length-take-le, length-drop, take_all}
 use Rattle.std.proofs.lemmas.Bool.{cases_Bool, le-ltb, ltb-false, not-false, not_from_true, or_from, or_parts}
 use Rattle.record.specs.Bytes.{zeros?}
@@ -12,11 +12,11 @@ use Rattle.record.proofs.Numbers.{Byte, below24, below32}
 use Rattle.record.proofs.Patterns.{finite_value}
 
 module _ {X : Type 0} (test : X → Bool) where
-  none_first : (xs : List X) → All (λ x. test x ≡ false) xs → first_of test xs ≡ None
+  none_first : (xs : List X) → AllByRecursion (λ x. test x ≡ false) xs → first_of test xs ≡ None
   none_first [] h = refl
   none_first (x ∷ xs) h = rw h.0 (none_first xs h.1)
 
-  first_none : (xs : List X) → first_of test xs ≡ None → All (λ x. test x ≡ false) xs
+  first_none : (xs : List X) → first_of test xs ≡ None → AllByRecursion (λ x. test x ≡ false) xs
   first_none [] e = tt
   first_none (x ∷ xs) e = elim (cases_Bool (test x)) [
     | inl t ↦ absurd (let z : ◌≡◌ {A = ℕ} 0 1 = let h = rw t at e in cc in omega arith)
@@ -26,7 +26,7 @@ module _ {X : Type 0} (test : X → Bool) where
   first_more : (xs ys : List X) → first_of test xs ≡ None → first_of test (xs ++ ys) ≡ first_of test ys
   first_more xs ys e = go xs (first_none xs e)
     where
-      go : (xs : List X) → All (λ x. test x ≡ false) xs → first_of test (xs ++ ys) ≡ first_of test ys
+      go : (xs : List X) → AllByRecursion (λ x. test x ≡ false) xs → first_of test (xs ++ ys) ≡ first_of test ys
       go [] h = refl
       go (x ∷ xs) h = rw h.0 (go xs h.1)
 
@@ -83,7 +83,7 @@ pub record Faultless (bytes : List ℕ) : Type 0 where
   pub flags : get_or bytes 9 0 ≤ 3
   pub zeros : zeros? (drop 73 bytes) ≡ true
 
-pub from_faultless : (bytes : List ℕ) → length bytes ≡ 80 → All Byte bytes → fault_of bytes ≡ None → Faultless bytes
+pub from_faultless : (bytes : List ℕ) → length bytes ≡ 80 → AllByRecursion Byte bytes → fault_of bytes ≡ None → Faultless bytes
 from_faultless bytes l all e =
     let t = first_none (offends bytes) faults e in
     let preambles = or_parts (ltb (get_or bytes 5 0) 2) (ltb 15 (get_or bytes 5 0)) t.1.0 in

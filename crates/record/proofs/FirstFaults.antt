@@ -1,6 +1,6 @@
 -- The first fault is the one of the smallest offset.
 use Rattle.std.proofs.Common.{◌≡◌, ℕ, ◌<◌, Bool, true, false, List, [], ◌∷◌, Some, ap, subst, inl, inr, arith}
-use Rattle.std.specs.List.{AllByRecursion as All}
+use Rattle.std.specs.List.{AllByRecursion}
 use Rattle.std.proofs.ByRecursion.{All-weaker}
 use Rattle.std.proofs.lemmas.Bool.{cases_Bool}
 use Rattle.record.specs.declared.faults.RecordFault.{RecordFault}
@@ -14,7 +14,7 @@ module _ {X : Type 0} (key : X → ℕ) where
   Linked x [] = Unit {0}
   Linked x (y ∷ ys) = (key x < key y) × Linked y ys
 
-  linked_all : (x : X) (ys : List X) → Linked x ys → All (λ y. key x < key y) ys
+  linked_all : (x : X) (ys : List X) → Linked x ys → AllByRecursion (λ y. key x < key y) ys
   linked_all x [] h = tt
   linked_all x (y ∷ ys) h = (h.0, All-weaker (λ z. key y < key z) (λ z. key x < key z) (λ z l. let k = h.0 in omega arith) ys (linked_all y ys h.1))
 
@@ -33,7 +33,7 @@ module _ {X : Type 0} (key : X → ℕ) where
         let k : key y ≡ key x = ap key s in
         omega arith
 
-    none_before : (x y : X) (ys : List X) → Linked y ys → first_of test (y ∷ ys) ≡ Some x → All (λ z. key z < key x → test z ≡ false) (y ∷ ys)
+    none_before : (x y : X) (ys : List X) → Linked y ys → first_of test (y ∷ ys) ≡ Some x → AllByRecursion (λ z. key z < key x → test z ≡ false) (y ∷ ys)
     none_before x y [] h e = elim (cases_Bool (test y)) [
       | inl t ↦ (λ l. absurd (passed x y [] t e l), tt)
       | inr t ↦ (λ _. t, tt)
@@ -45,7 +45,7 @@ module _ {X : Type 0} (key : X → ℕ) where
     ]
 
 -- what holds of all faults holds of each
-each : (P : RecordFault → Type 0) → All P faults → (f : RecordFault) → P f
+each : (P : RecordFault → Type 0) → AllByRecursion P faults → (f : RecordFault) → P f
 each P h PollingAddress = h.0
 each P h Preambles = h.1.0
 each P h Flags = h.1.1.0

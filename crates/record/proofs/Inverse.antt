@@ -2,7 +2,7 @@
 use Rattle.std.proofs.Common.{◌≡◌, ℕ, ◌^◌, ◌<◌, Bool, true, leb, List, [], ◌∷◌, ◌++◌, length, get_or, take, drop, replicate, None, sym, refl, ap, ◌∙◌, subst, arith}
 use lib.Ieee.{Float}
 use Rattle.std.specs.Float.{float_is_finite}
-use Rattle.std.specs.List.{AllByRecursion as All}
+use Rattle.std.specs.List.{AllByRecursion}
 use Rattle.std.proofs.lemmas.List.{take_at, drop_at, length-drop}
 use Rattle.std.proofs.lemmas.Bool.{and_parts, leb-true}
 use Rattle.setpoint.specs.Value.{value_of}
@@ -59,7 +59,7 @@ same_front : (d p n c u : ℕ) {i i' a a' s s' l l' x x' y y' : List ℕ} {g g' 
     → ((d ∷ []) ++ i ++ (p ∷ n ∷ []) ++ a ++ (g ∷ []) ++ s ++ (c ∷ u ∷ []) ++ l) ++ (x ++ y) ≡ ((d ∷ []) ++ i' ++ (p ∷ n ∷ []) ++ a' ++ (g' ∷ []) ++ s' ++ (c ∷ u ∷ []) ++ l') ++ (x' ++ y')
 same_front d p n c u ei ea eg es el ex ey = rw (ei, ea, eg, es, el, ex, ey) refl
 
-module _ (bytes : List ℕ) (l : length bytes ≡ 80) (all : All Byte bytes) (h : Faultless bytes) where
+module _ (bytes : List ℕ) (l : length bytes ≡ 80) (all : AllByRecursion Byte bytes) (h : Faultless bytes) where
   pattern_again : (at : ℕ) → float_is_finite (value_of (number32 bytes at)) ≡ true → bytes32 (pattern_of (value_of (number32 bytes at))) ≡ bytes32 (number32 bytes at)
   pattern_again at e = ap bytes32 (pattern_value (number32 bytes at) (below32 bytes all at) e)
 
@@ -81,7 +81,7 @@ module _ (bytes : List ℕ) (l : length bytes ≡ 80) (all : All Byte bytes) (h 
       ∙ ap (λ (t : List ℕ). take 28 bytes ++ take 45 (drop 28 bytes) ++ t) reserved_again
       ∙ three_parts 28 45 bytes
 
-pub encodes_again : (bytes : List ℕ) (r : Record) → length bytes ≡ 80 → All Byte bytes → fault_of bytes ≡ None → r ≡ decoded bytes → EncodesAgain bytes r
+pub encodes_again : (bytes : List ℕ) (r : Record) → length bytes ≡ 80 → AllByRecursion Byte bytes → fault_of bytes ≡ None → r ≡ decoded bytes → EncodesAgain bytes r
 encodes_again bytes r l all e is =
     let h = from_faultless bytes l all e in
     subst (EncodesAgain bytes) (sym is) (record { lawful = h.lawful; same = same_bytes bytes l all h })

@@ -3,13 +3,13 @@ use Rattle.std.proofs.Common.{◌≡◌, ℕ, zero, suc, ◌+◌, ◌*◌, ◌/�
 use native.Mathlib.Nat.{div-div-eq-div-mul}
 use Rattle.std.proofs.lemmas.Nat.{div-add-mod'}
 use Rattle.std.proofs.lemmas.Bool.Decides.{nat_tests}
-use Rattle.std.specs.List.{AllByRecursion as All}
+use Rattle.std.specs.List.{AllByRecursion}
 use Rattle.record.specs.Bytes.{bytes24, bytes32, number24, number32, bit?}
 
 abbrev pub Byte : ℕ → Type 0
 Byte b = b < 256
 
-pub byte_at : (bytes : List ℕ) (i : ℕ) → All Byte bytes → get_or bytes i 0 < 256
+pub byte_at : (bytes : List ℕ) (i : ℕ) → AllByRecursion Byte bytes → get_or bytes i 0 < 256
 byte_at [] i h = omega arith
 byte_at (b ∷ bytes) zero h = h.0
 byte_at (b ∷ bytes) (suc i) h = byte_at bytes i h.1
@@ -42,7 +42,7 @@ module _ (a b c d : ℕ) (A : a < 256) (B : b < 256) (C : c < 256) (D : d < 256)
       let r : n % 256 ≡ d = omega arith in
       cc
 
-module _ (bytes : List ℕ) (all : All Byte bytes) (at : ℕ) where
+module _ (bytes : List ℕ) (all : AllByRecursion Byte bytes) (at : ℕ) where
   pub below24 : number24 bytes at < 2 ^ 24
   below24 = omega (arith, byte_at bytes at all, byte_at bytes (at + 1) all, byte_at bytes (at + 2) all)
 

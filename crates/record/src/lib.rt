@@ -109,11 +109,15 @@ mod tests {
         let bytes = encode(&example());
         assert_eq!(rt;
             &bytes[0..20],
-            &[
-                70, 0, 0, 1, 1, 2, 0, 0, 7, 2, 0x41, 0xc8, 0, 0, 100, 171, 0, 0, 3, 0xe8,
+            [
+                70u8, 0, 0, 1, 1, 2, 0, 0, 7, 2, 0x41, 0xc8, 0, 0, 100, 171, 0, 0, 3, 0xe8,
             ]
+            .as_slice()
         );
-        assert_eq!(rt; &bytes[20..28], &[0x43, 0x7a, 0, 0, 0x41, 0xac, 0, 0]);
+        assert_eq!(rt;
+            &bytes[20..28],
+            [0x43u8, 0x7a, 0, 0, 0x41, 0xac, 0, 0].as_slice()
+        );
     }
 
     #[test]

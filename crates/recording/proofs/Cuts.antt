@@ -1,5 +1,5 @@
 -- A recording that is cut in two.
-use Rattle.std.proofs.Common.{◌≡◌, ℕ, zero, suc, ◌+◌, ◌-◌, ◌*◌, ◌/◌, ◌<◌, ◌≤◌, List, [], ◌∷◌, ◌++◌, length, take, drop, set, sym, refl, ap, ◌∙◌, zero-add, arith}
+use Rattle.std.proofs.Common.{◌≡◌, ℕ, zero, suc, ◌+◌, ◌*◌, ◌/◌, ◌<◌, ◌≤◌, List, [], ◌∷◌, ◌++◌, length, take, drop, set, sym, refl, ap, ◌∙◌, zero-add, arith}
 use Rattle.std.proofs.lemmas.List.{length-append, length-drop, length_push, length-set, length-take-le, take_all, take-append-le, drop_all, drop-append-le, drop-drop, take_more_set}
 use Rattle.recording.specs.Recordings.{first_events, events_of, rest_of, CutAnywhere}
 use Rattle.recording.specs.Collecting.{Continues}

@@ -56,7 +56,10 @@ mod tests {
                 bytes: &bytes,
             },
         )?;
-        assert_eq!(rt; lines.as_slice(), b"0 FFFF06811005000000000795\n");
+        assert_eq!(rt;
+            lines.as_slice(),
+            b"0 FFFF06811005000000000795\n".as_slice()
+        );
         Ok(())
     }
 
@@ -64,7 +67,7 @@ mod tests {
     fn refusal_line(rt: HostRuntime) -> Result<(), Fail> {
         let mut lines = Vec::new(rt.alloc());
         push_refusal(&mut lines, Refusal::OutOfForm)?;
-        assert_eq!(rt; lines.as_slice(), b"refused 110\n");
+        assert_eq!(rt; lines.as_slice(), b"refused 110\n".as_slice());
         Ok(())
     }
 }

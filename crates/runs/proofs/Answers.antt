@@ -1,6 +1,5 @@
 -- What an answer's bytes carry.
 use Rattle.std.proofs.Common.{◌≡◌, ℕ, ◌⊎◌, List, length, refl, ap, ◌∙◌, inl, inr}
-use Rattle.frame.specs.Check.{check_of}
 use Rattle.frame.specs.Frames.{Parts, RequestFrame}
 use Rattle.frame.specs.Making.{start_for, frame_bytes}
 use Rattle.frame.proofs.Frames.{start_read}

@@ -1,5 +1,5 @@
 -- A gas flow channel keeps the laws of a device.
-use Rattle.std.proofs.Common.{◌≡◌, ℕ, ◌+◌, ◌≤◌, Bool, true, false, cond, ◌&&◌, eqb, leb, ◌⊎◌, List, [], ◌∷◌, length, get_or, is_ok, Some, None, Option, sym, refl, ap, ◌∙◌, subst, inl, inr, true≢false, arith}
+use Rattle.std.proofs.Common.{◌≡◌, ℕ, ◌≤◌, Bool, true, false, cond, ◌&&◌, eqb, ◌⊎◌, List, length, get_or, Some, None, Option, sym, refl, ap, ◌∙◌, inl, inr, true≢false, arith}
 use Rattle.std.specs.Result.{result_err}
 use Rattle.std.proofs.lemmas.Bool.{cases_Bool, and_parts, and_from, eqb-true, ne_eqb}
 use Rattle.frame.specs.Frames.{Parts}
@@ -10,15 +10,15 @@ use Rattle.record.specs.Bytes.{number32}
 use Rattle.record.specs.Readings.{is_finite}
 use Rattle.record.specs.declared.Record.{Record}
 use Rattle.rack.specs.Changes.{written, stored_pattern, record_after}
-use Rattle.line.specs.Addressing.{address_means, tag_means, tag_of, means}
-use Rattle.line.specs.Answers.{Outcome, carried, by_code, communication_error, outcome_by, own_outcome, answer_bytes, refused, content_of, status_of}
+use Rattle.line.specs.Addressing.{tag_means, tag_of, means}
+use Rattle.line.specs.Answers.{Outcome, carried, by_code, communication_error, own_outcome, answer_bytes, refused, status_of}
 use Rattle.line.specs.Characters.{Character, Reception, received}
 use Rattle.line.specs.Codes as codes
 use Rattle.line.specs.Codes.{own_code}
 use Rattle.line.specs.Effects.{effect}
 use Rattle.line.specs.Requests.{asked_by}
 use Rattle.line.specs.Whole.{sound?, error_status}
-use Rattle.runs.specs.Channel.{Operation, sample, key, change_of, Nameplate, nameplate, Granted, granted_in, after_command, after_reply, after_operation, granted_share, means_frame, asks_frame, served_frame, answer_frame, denial_frame, setpoint_frame?, asked_frame, means_by, asks_by, frame_in, channel}
+use Rattle.runs.specs.Channel.{Operation, sample, key, change_of, nameplate, Granted, granted_in, after_command, after_reply, after_operation, granted_share, means_frame, asks_frame, served_frame, answer_frame, denial_frame, setpoint_frame?, asked_frame, means_by, asks_by, frame_in, channel}
 use Rattle.runs.specs.Damage.{Damaged, CommunicationError}
 use Rattle.runs.specs.Devices.{Lawful}
 use Rattle.runs.proofs.Answers.{wide, content_answer}

@@ -4,7 +4,7 @@ use Rattle.std.proofs.lemmas.Bool.{eqb-true, ne_eqb, cond_both}
 use Rattle.runs.specs.Devices.{Device, Lawful}
 use Rattle.runs.specs.Places.{At, here}
 use Rattle.runs.specs.Shares.{others}
-use Rattle.runs.specs.Traces.{Rack, Line, Event, Trace, gap, local, taken, answered, ◌▸◌, local_result}
+use Rattle.runs.specs.Traces.{Rack, Line, Event, Trace, gap, local, answered, ◌▸◌, local_result}
 use Rattle.runs.specs.Steps.{Only, Step, takes, refuses, short, nobody, serves, denies, operates, misses, Run, rests, goes}
 use Rattle.runs.specs.Histories.{line_after, refusal_of, grant_after, granted, heard, lone_at, lone}
 use Rattle.runs.proofs.Places.{at_one, at_sole, at_changed, at_same}

@@ -1,7 +1,6 @@
 -- What commands and local operations make of a record's nameplate and grants.
-use Rattle.std.proofs.Common.{◌≡◌, ℕ, Bool, true, false, cond, not, ◌&&◌, eqb, ltb, leb, List, length, get_or, is_ok, Some, None, Ok, Err, Option, Result, sym, refl, ap, ◌∙◌, inl, inr, true≢false, arith}
+use Rattle.std.proofs.Common.{◌≡◌, ℕ, Bool, true, false, cond, not, ◌&&◌, eqb, ltb, leb, List, length, get_or, is_ok, Ok, Err, Option, Result, sym, refl, ap, ◌∙◌, inl, inr, true≢false}
 use lib.Ieee
-use Rattle.std.specs.Float.{float_is_finite}
 use Rattle.std.proofs.lemmas.Bool.{cases_Bool, and_parts, eqb-true}
 use Rattle.setpoint.specs.Load.{load_of}
 use Rattle.setpoint.specs.Refusals.{admitted_under}
@@ -11,12 +10,12 @@ use Rattle.setpoint.specs.declared.SetpointRefusal.TheVariants.{NotANumber, Abov
 use Rattle.record.specs.Bytes.{number24, number32}
 use Rattle.record.specs.Readings.{is_finite}
 use Rattle.record.specs.declared.Record.{Record}
-use Rattle.rack.specs.Changes.{written, with_text, with_reading, with_setpoint, stored_pattern, record_after, text_run?}
+use Rattle.rack.specs.Changes.{written, with_text, with_setpoint, stored_pattern, record_after, text_run?}
 use Rattle.rack.specs.declared.changes.Change.{Change}
 use Rattle.rack.specs.declared.changes.Change.TheVariants.{PollingAddress, Preambles, AssemblyNumber, Changed, Key, Sample, Text, Setpoint}
 use Rattle.line.specs.Codes.{own_code, rack_code, percent?}
 use Rattle.line.specs.Commands.{sets_changed?, reads?, writes?, count_of}
-use Rattle.line.specs.Effects.{number_stored, field_stored, stores?, stored_by, stored, flag_for, flagged, effect, text_place}
+use Rattle.line.specs.Effects.{number_stored, stores?, stored_by, stored, flag_for, flagged, effect, text_place}
 use Rattle.line.specs.Requests.{Asked, tag_question, text_write, number_write, bare, asked_by, text_write?, number_write?}
 use Rattle.runs.specs.Channel.{nameplate, Granted, granted_in, after_command}
 

@@ -4,7 +4,7 @@ use Rattle.header.specs.Shares.{capacity_of, total_share, fields_share}
 use Rattle.record.specs.declared.Record.{Record}
 use Rattle.runs.specs.Channel.{channel}
 use Rattle.runs.specs.Places.{At, here, there}
-use Rattle.runs.specs.SetUps.{SetUp, Promised, RunsPromised, CallsFollow, CallsDetermined}
+use Rattle.runs.specs.SetUps.{SetUp, RunsPromised, CallsFollow, CallsDetermined}
 use Rattle.runs.specs.Shares.{total}
 use Rattle.runs.proofs.Channel.{channel_lawful}
 use Rattle.runs.proofs.Outcomes.{follows, determined}

@@ -1,18 +1,18 @@
 -- A sound transmission with one character damaged is not sound, also where the damage moves the start.
-use Rattle.std.proofs.Common.{◌≡◌, ℕ, zero, suc, ◌<◌, ◌≤◌, Bool, true, false, cond, ◌&&◌, eqb, leb, ◌⊎◌, List, [], ◌∷◌, map, length, get_or, drop, set, Some, None, Ok, Err, fold, Option, Result, sym, refl, ap, ◌∙◌, subst, inl, inr, le_of_suc-le-suc, arith}
+use Rattle.std.proofs.Common.{◌≡◌, ℕ, zero, suc, ◌<◌, ◌≤◌, true, eqb, leb, ◌⊎◌, List, [], ◌∷◌, map, length, get_or, drop, set, Some, Ok, Err, fold, Result, sym, refl, ap, ◌∙◌, subst, inl, inr, le_of_suc-le-suc, arith}
 use lib.Bits.{bit_xor, bit_or, xor_comm, xor_assoc, xor_self, xor_zero_l, xor_zero_r, or_add_and, and_le_l, and_le_r}
 use lib.ListN.{length-map}
 use Rattle.std.specs.Result.{result_ok}
-use Rattle.std.specs.List.{AllByRecursion as All}
+use Rattle.std.specs.List.{AllByRecursion}
 use Rattle.std.proofs.lemmas.List.{map-set, set-get_or, drop-map}
 use Rattle.std.proofs.lemmas.Bool.{cases_eq, cases_Bool, ne_eqb, and_parts, eqb-true, leb-true}
 use Rattle.frame.specs.Check.{check_of}
 use Rattle.frame.specs.Frames.{Parts, RequestFrame, request_frame}
-use Rattle.frame.specs.Transmissions.{Request, Transmits, preambles_of, span_of}
+use Rattle.frame.specs.Transmissions.{preambles_of, span_of}
 use Rattle.frame.proofs.Frames.{read_request_lem, framed_start}
 use Rattle.frame.proofs.Transmissions.{led, parts_with, span_sent, sent_request}
 use Rattle.line.specs.Characters.{Character, received}
-use Rattle.line.specs.Whole.{frame_of, sound?}
+use Rattle.line.specs.Whole.{sound?}
 use Rattle.runs.specs.Channel.{frame_in}
 use Rattle.runs.specs.Damage.{bytes_in, Sound, Damaged}
 
@@ -89,7 +89,7 @@ good t h =
     rw e (begins s.span (parts_with h.request s.check) s.framed, s.sound)
 
 -- what holds of each element past n holds of one that was put there
-put : {X : Type 0} (P : X → Type 0) (n : ℕ) (xs : List X) (i : ℕ) (x : X) → n ≤ i → i < length xs → All P (drop n (set xs i x)) → P x
+put : {X : Type 0} (P : X → Type 0) (n : ℕ) (xs : List X) (i : ℕ) (x : X) → n ≤ i → i < length xs → AllByRecursion P (drop n (set xs i x)) → P x
 put P n [] i x h l a = absurd (omega arith)
 put P zero (y ∷ xs) zero x h l a = a.0
 put P zero (y ∷ xs) (suc i) x h l a = put P zero xs i x (omega arith) (omega arith) a.1
@@ -114,7 +114,7 @@ unsound t d s =
     ]
 
 -- the tests of a transmission say that it is sound
-none_marked : (n : ℕ) (ms : List ℕ) → fold bit_or n ms ≡ 0 → (n ≡ 0) × All (λ m. m ≡ 0) ms
+none_marked : (n : ℕ) (ms : List ℕ) → fold bit_or n ms ≡ 0 → (n ≡ 0) × AllByRecursion (λ m. m ≡ 0) ms
 none_marked n [] e = (e, tt)
 none_marked n (m ∷ ms) e =
     let p = none_marked (bit_or n m) ms e in
@@ -124,7 +124,7 @@ none_marked n (m ∷ ms) e =
     let z = p.0 in
     (omega arith, (omega arith, p.1))
 
-all_map : {X Y : Type 0} (f : X → Y) (P : Y → Type 0) (xs : List X) → All P (map f xs) → All (λ x. P (f x)) xs
+all_map : {X Y : Type 0} (f : X → Y) (P : Y → Type 0) (xs : List X) → AllByRecursion P (map f xs) → AllByRecursion (λ x. P (f x)) xs
 all_map f P [] a = tt
 all_map f P (x ∷ xs) a = (a.0, all_map f P xs a.1)
 

@@ -13,7 +13,7 @@ use Rattle.rack.specs.Changes.{written, stored_pattern, record_after}
 use Rattle.rack.specs.declared.changes.Change.{Change}
 use Rattle.rack.specs.declared.changes.Change.TheVariants.{Sample, Key}
 use Rattle.line.specs.Addressing.{address_means, means}
-use Rattle.line.specs.Answers.{Outcome, refused, own_outcome, answer_bytes, status_of}
+use Rattle.line.specs.Answers.{refused, own_outcome, answer_bytes, status_of}
 use Rattle.line.specs.Characters.{Character, Reception, received}
 use Rattle.line.specs.Codes as codes
 use Rattle.line.specs.Codes.{percent?}

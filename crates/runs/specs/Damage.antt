@@ -1,6 +1,6 @@
 -- Sound transmissions, and damage to one character on the line.
 use Rattle.std.specs.Prelude.{◌≡◌, ℕ, ◌<◌, ◌≤◌, ◌⊎◌, List, [], ◌∷◌, map, length, drop, ◌≢◌, slice_index, slice_set}
-use Rattle.std.specs.List.{AllByRecursion as All}
+use Rattle.std.specs.List.{AllByRecursion}
 use Rattle.frame.specs.Transmissions.{Request, Transmits, preambles_of}
 use Rattle.line.specs.Characters.{Character}
 use Rattle.line.specs.Answers.{content_of}
@@ -12,7 +12,7 @@ bytes_in t = map (λ c. c.byte) t
 pub record Sound (t : List Character) : Type 0 where
   pub request : Request
   pub transmits : Transmits request (bytes_in t)
-  pub unmarked : All (λ c. c.marks ≡ 0) (drop (preambles_of (bytes_in t)) t)
+  pub unmarked : AllByRecursion (λ c. c.marks ≡ 0) (drop (preambles_of (bytes_in t)) t)
 
 -- a sound transmission of which just one character is taken as another: with another byte, at any place, or with marks, from
 -- the start on

@@ -1,6 +1,6 @@
 -- The record of a channel from the answers of its rack.
-use Rattle.std.proofs.Common.{◌≡◌, ℕ, zero, suc, ◌<◌, ◌≤◌, Bool, true, false, cond, ◌&&◌, ltb, leb, List, [], ◌∷◌, length, get_or, take, Some, None, Ok, Err, Option, sym, refl, ap, ◌∙◌, arith}
-use Rattle.std.specs.List.{AllByRecursion as All}
+use Rattle.std.proofs.Common.{◌≡◌, ℕ, zero, suc, ◌<◌, ◌≤◌, Bool, true, ltb, leb, List, [], ◌∷◌, length, get_or, take, Some, None, Ok, Option, refl, ◌∙◌, arith}
+use Rattle.std.specs.List.{AllByRecursion}
 use Rattle.std.proofs.lemmas.List.{take_all}
 use Rattle.std.proofs.lemmas.Bool.{and_from, lt-ltb, le-leb}
 use Rattle.frame.specs.Frames.{Parts}
@@ -23,7 +23,7 @@ record_from (Some r) fields reading text f e t =
     rw (a, b, c) refl
 record_from None fields reading text f e t = let z : ◌≡◌ {A = ℕ} 0 1 = cc in absurd (omega arith)
 
-pub record_is : (records : List Record) (channel : ℕ) → All Lawful records → (fields : Fields) (reading : Reading) (text : List ℕ)
+pub record_is : (records : List Record) (channel : ℕ) → AllByRecursion Lawful records → (fields : Fields) (reading : Reading) (text : List ℕ)
     → Ok fields ≡ answered (λ r. Ok r.fields) (channel_of records channel) → Ok reading ≡ answered (λ r. Ok r.reading) (channel_of records channel)
     → ((r : Record) → channel_of records channel ≡ Some r → text ≡ take 45 r.text) → Some (record { fields = fields; reading = reading; text = text }) ≡ channel_of records channel
 record_is records channel lawful fields reading text f e t =

@@ -1,8 +1,8 @@
 -- What a channel that is meant answers and writes, from what the calls say.
-use Rattle.std.proofs.Common.{◌≡◌, ℕ, zero, suc, ◌<◌, ◌≤◌, Bool, true, false, cond, ◌&&◌, eqb, ltb, leb, List, [], ◌∷◌, ◌++◌, length, drop, set, Some, None, Ok, Err, Option, Result, sym, refl, ap, ◌∙◌, subst, inl, inr, arith}
+use Rattle.std.proofs.Common.{◌≡◌, ℕ, suc, ◌≤◌, Bool, true, false, cond, ◌&&◌, eqb, leb, List, [], ◌∷◌, ◌++◌, length, drop, set, Some, None, Ok, Err, Option, Result, sym, refl, ap, ◌∙◌, subst, inl, inr, arith}
 use lib.Ieee.{binary32, fits}
-use Rattle.std.specs.List.{AllByRecursion as All}
-use Rattle.std.proofs.lemmas.Bool.{cases_Bool, and_parts, and_from, eqb-true, leb-true, le-leb, le-ltb, cond-true}
+use Rattle.std.specs.List.{AllByRecursion}
+use Rattle.std.proofs.lemmas.Bool.{cases_Bool, and_parts, and_from, leb-true, le-leb, le-ltb, cond-true}
 use Rattle.frame.specs.Frames.{Parts}
 use Rattle.line.specs.Addressing.{means}
 use Rattle.line.specs.Answers.{Outcome, outcome, answer_bytes}
@@ -12,7 +12,6 @@ use Rattle.line.specs.Effects.{effect}
 use Rattle.line.specs.Responses.{Responds, refusal_for}
 use Rattle.line.specs.Whole.{frame_of, sound?}
 use Rattle.line.specs.declared.codes.Header.{Header}
-use Rattle.rack.specs.Lawful.{lawful?}
 use Rattle.rack.specs.Meaning.{record_at, channel_of}
 use Rattle.rack.proofs.Lawful.{law_decided}
 use Rattle.rack.proofs.Meaning.{channel_lawful}
@@ -105,7 +104,7 @@ pub record Ready (supply : ℕ) (records : List Record) (f : Parts) (k : ℕ) (r
   pub lawful : is_lawful r ≡ true
   pub header : h ≡ header_for supply records k
 
-pub ready : (supply : ℕ) (records : List Record) (f : Parts) (k : ℕ) (r : Record) (n : ℕ) → All Lawful records → sole_meant f records ≡ Some k → Some r ≡ channel_of records k
+pub ready : (supply : ℕ) (records : List Record) (f : Parts) (k : ℕ) (r : Record) (n : ℕ) → AllByRecursion Lawful records → sole_meant f records ≡ Some k → Some r ≡ channel_of records k
     → n ≡ cond (leb (length records) 15) (others channel records k) 0 → Ready supply records f k r (record { supply = supply; others = n })
 ready supply records f k r n lawful sole is o = record {
   is = is;

@@ -1,16 +1,14 @@
 -- Text bytes of a channel, one after another.
-use Rattle.std.proofs.Common.{◌≡◌, ℕ, ◌+◌, ◌<◌, ◌≤◌, leb, List, [], ◌∷◌, ◌++◌, length, get_or, take, set, Some, Ok, Err, Result, sym, refl, ap, ◌∙◌, arith}
-use Rattle.std.specs.List.{AllByRecursion as All}
+use Rattle.std.proofs.Common.{◌≡◌, ℕ, ◌+◌, ◌<◌, List, length, get_or, take, set, Some, Ok, Err, sym, refl, ◌∙◌, arith}
+use Rattle.std.specs.List.{AllByRecursion}
 use Rattle.std.proofs.lemmas.List.{take_more, take_more_set}
 use Rattle.std.proofs.lemmas.Bool.{le-leb}
 use Rattle.record.specs.Lawful.{Lawful}
 use Rattle.record.specs.declared.Record.{Record}
 use Rattle.rack.specs.Meaning.{channel_of, text_byte}
-use Rattle.rack.specs.Refusals.{numbered}
-use Rattle.rack.specs.declared.refusal.RackRefusal.{RackRefusal}
 use Rattle.rack.proofs.Meaning.{channel_lawful}
 
-module _ (records : List Record) (channel : ℕ) (lawful : All Lawful records) (r : Record) (is : channel_of records channel ≡ Some r) (place : ℕ) (low : place < 45) where
+module _ (records : List Record) (channel : ℕ) (lawful : AllByRecursion Lawful records) (r : Record) (is : channel_of records channel ≡ Some r) (place : ℕ) (low : place < 45) where
   byte_at : text_byte records channel place ≡ Ok (get_or r.text place 0)
   byte_at = rw (is, le-leb place 44 (omega arith)) refl
 

@@ -1,6 +1,6 @@
 -- Writes to the record of a channel, by the list of records.
-use Rattle.std.proofs.Common.{◌≡◌, ℕ, zero, suc, ◌+◌, ◌-◌, ◌<◌, ◌≤◌, Bool, true, false, cond, ◌&&◌, ltb, leb, List, [], ◌∷◌, length, set, is_some, IfSome, Some, None, Ok, Err, Option, Result, sym, refl, ap, ◌∙◌, subst, inl, inr, arith, length-set}
-use Rattle.std.proofs.lemmas.Bool.{cases_Bool, and_from, and_parts, lt-ltb, le-leb, ltb-true, leb-true, cases_lt}
+use Rattle.std.proofs.Common.{◌≡◌, ℕ, zero, suc, ◌+◌, ◌-◌, ◌≤◌, Bool, true, false, cond, ◌&&◌, ltb, leb, List, [], ◌∷◌, length, set, is_some, IfSome, Some, None, Ok, Err, Option, Result, sym, refl, ap, ◌∙◌, inl, inr, arith, length-set}
+use Rattle.std.proofs.lemmas.Bool.{cases_Bool, and_from, lt-ltb, le-leb, leb-true, cases_lt}
 use Rattle.header.specs.Shares.{fields_share, option_share, share_at, total_share, rack_share}
 use Rattle.line.specs.Effects.{stores?, stored_by, flagged}
 use Rattle.line.specs.Requests.{Asked}
@@ -9,7 +9,7 @@ use Rattle.rack.specs.Meaning.{told, record_at, channel_of, written_at, records_
 use Rattle.rack.specs.declared.changes.Change.{Change}
 use Rattle.record.specs.declared.Record.{Record}
 use Rattle.runs.specs.Channel.{channel}
-use Rattle.runs.specs.Shares.{sum_of, sum_but, others, total}
+use Rattle.runs.specs.Shares.{others, total}
 
 from_cond : (b : Bool) (o : Option Record) (r : Record) → cond b o None ≡ Some r → (b ≡ true) × (o ≡ Some r)
 from_cond true o r e = (refl, e)

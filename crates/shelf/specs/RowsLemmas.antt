@@ -1,7 +1,7 @@
 -- The records of a shelf by their rows.
 use Rattle.std.specs.Prelude.{◌≡◌, ℕ, zero, suc, ◌<◌, ◌≤◌, true, List, [], ◌∷◌, map, length, take, set, Some, None, nat_le, nat_lt, slice_index_or, slice_set, refl}
 use Rattle.std.proofs.Common.{ap, ◌∙◌, le_of_suc-le-suc, arith}
-use Rattle.std.specs.List.{AllByRecursion as All}
+use Rattle.std.specs.List.{AllByRecursion}
 use Rattle.std.proofs.ByRecursion.{All-set}
 use Rattle.std.proofs.lemmas.List.{length-take-le, get_or-take, map-set, length-map}
 use Rattle.std.proofs.lemmas.Bool.{and_parts, and_from, and_left, le-ltb, cond-false}
@@ -15,11 +15,11 @@ use Rattle.rack.proofs.Channels.{channel_plain}
 use Rattle.shelf.specs.Rows.{records_in, all_lawful?}
 
 -- the test of all records tells that all are lawful
-pub all_lawful : (records : List Record) → all_lawful? records ≡ true → All Lawful records
+pub all_lawful : (records : List Record) → all_lawful? records ≡ true → AllByRecursion Lawful records
 all_lawful [] h = tt
 all_lawful (r ∷ records) h = let p = and_parts (lawful? r) (all_lawful? records) h in ((law_decided r).0 p.0, all_lawful records p.1)
 
-pub lawful_all : (records : List Record) → All Lawful records → all_lawful? records ≡ true
+pub lawful_all : (records : List Record) → AllByRecursion Lawful records → all_lawful? records ≡ true
 lawful_all [] h = refl
 lawful_all (r ∷ records) h = and_from (lawful? r) (all_lawful? records) ((law_decided r).1 h.0) (lawful_all records h.1)
 

@@ -1,7 +1,7 @@
 -- One group more, the length of what the groups give, and a regrouping undone by another.
 use Rattle.std.proofs.Common.{◌≡◌, ℕ, zero, suc, ◌+◌, ◌*◌, List, ◌++◌, length, take, drop, sym, ◌∙◌, append_assoc, suc-mul, add_comm, zero-mul, add-one, arith, length-append}
 use borrow.Rule.Slice.PartMut.{put_mid}
-use Rattle.std.specs.List.{AllByRecursion as All}
+use Rattle.std.specs.List.{AllByRecursion}
 use Rattle.std.proofs.lemmas.List.{drop-drop, append-nil, take_at, drop_at, nil_from_length, length-take-le, length-drop, take-append-drop}
 use Rattle.std.proofs.ByRecursion.{All-take, All-drop}
 use Rattle.text.specs.Groups.{grouped}
@@ -27,7 +27,7 @@ module _ (f : List ℕ → List ℕ) (w : ℕ) where
         rw (i, k, front, back, drop-drop, e, add-one, suc-mul, grouped_more n xs) (sym (append_assoc (grouped n w f xs) (f (take w (drop (n * w) xs))) (drop (n * v + v) out)))
 
     -- g undoes f on each group whose elements have P: so does g, group by group, what f did group by group
-    pub regrouped : (g : List ℕ → List ℕ) (P : ℕ → Type 0) → ((ys : List ℕ) → length ys ≡ w → All P ys → g (f ys) ≡ ys) → (n : ℕ) (xs : List ℕ) → length xs ≡ n * w → All P xs → grouped n v g (grouped n w f xs) ≡ xs
+    pub regrouped : (g : List ℕ → List ℕ) (P : ℕ → Type 0) → ((ys : List ℕ) → length ys ≡ w → AllByRecursion P ys → g (f ys) ≡ ys) → (n : ℕ) (xs : List ℕ) → length xs ≡ n * w → AllByRecursion P xs → grouped n v g (grouped n w f xs) ≡ xs
     regrouped g P undoes zero xs l a = sym (nil_from_length xs (l ∙ zero-mul w))
     regrouped g P undoes (suc n) xs l a =
         let s = suc-mul n w in

@@ -1,6 +1,6 @@
 -- Packing and unpacking undo each other.
 use Rattle.std.proofs.Common.{◌≡◌, ℕ, zero, suc, ◌*◌, ◌/◌, ◌%◌, ◌<◌, ◌≤◌, true, eqb, leb, List, [], ◌∷◌, length, get_or, take, drop, refl, ap, ◌∙◌, arith}
-use Rattle.std.specs.List.{AllByRecursion as All}
+use Rattle.std.specs.List.{AllByRecursion}
 use Rattle.std.proofs.lemmas.Bool.{and_parts, and_from, eqb-true, eq-eqb, leb-true, le-leb}
 use Rattle.std.proofs.ByRecursion.{All-take, All-drop, All-append}
 use Rattle.text.specs.Groups.{grouped}
@@ -36,7 +36,7 @@ letters_bits g h =
     let d : letter_of (g % 64) % 64 ≡ g % 64 = six_back (g % 64) (omega arith) in
     rw (a, b, c, d) (omega arith)
 
-unpack_pack : (t : List ℕ) → length t ≡ 4 → All Letter t → unpack3 (pack4 t) ≡ t
+unpack_pack : (t : List ℕ) → length t ≡ 4 → AllByRecursion Letter t → unpack3 (pack4 t) ≡ t
 unpack_pack [] l h = absurd (omega arith)
 unpack_pack (a ∷ []) l h = absurd (omega arith)
 unpack_pack (a ∷ b ∷ []) l h = absurd (omega arith)
@@ -50,7 +50,7 @@ unpack_pack (a ∷ b ∷ c ∷ d ∷ []) l h =
     let s : g % 64 ≡ d % 64 = omega arith in
     ap four_letters (bytes_bits g) ∙ cc (ap letter_of p, ap letter_of q, ap letter_of r, ap letter_of s, letter_back a h.0, letter_back b h.1.0, letter_back c h.1.1.0, letter_back d h.1.1.1.0)
 
-pack_unpack : (p : List ℕ) → length p ≡ 3 → All Byte p → pack4 (unpack3 p) ≡ p
+pack_unpack : (p : List ℕ) → length p ≡ 3 → AllByRecursion Byte p → pack4 (unpack3 p) ≡ p
 pack_unpack [] l h = absurd (omega arith)
 pack_unpack (a ∷ []) l h = absurd (omega arith)
 pack_unpack (a ∷ b ∷ []) l h = absurd (omega arith)
@@ -62,14 +62,14 @@ pack_unpack (a ∷ b ∷ c ∷ []) l h =
     let r : g % 256 ≡ c = omega arith in
     ap three_bytes (letters_bits g (omega arith)) ∙ cc
 
-letters_all : (t : List ℕ) → letters? t ≡ true → All Letter t
+letters_all : (t : List ℕ) → letters? t ≡ true → AllByRecursion Letter t
 letters_all [] h = tt
 letters_all (l ∷ t) h =
     let p = and_parts (letter? l) (letters? t) h in
     let q = and_parts (leb 32 l) (leb l 95) p.0 in
     ((leb-true 32 l q.0, leb-true l 95 q.1), letters_all t p.1)
 
-all_letters : (t : List ℕ) → All Letter t → letters? t ≡ true
+all_letters : (t : List ℕ) → AllByRecursion Letter t → letters? t ≡ true
 all_letters [] h = refl
 all_letters (l ∷ t) h =
     and_from (letter? l) (letters? t) (and_from (leb 32 l) (leb l 95) (le-leb 32 l h.0.0) (le-leb l 95 h.0.1)) (all_letters t h.1)
@@ -77,12 +77,12 @@ all_letters (l ∷ t) h =
 six_letter : (v : ℕ) → v < 64 → Letter (letter_of v)
 six_letter v h = (omega arith, omega arith)
 
-byte_at : (p : List ℕ) (i : ℕ) → All Byte p → get_or p i 0 < 256
+byte_at : (p : List ℕ) (i : ℕ) → AllByRecursion Byte p → get_or p i 0 < 256
 byte_at [] i h = omega arith
 byte_at (b ∷ p) zero h = h.0
 byte_at (b ∷ p) (suc i) h = byte_at p i h.1
 
-four_letters_lem : (p : List ℕ) → All Byte p → All Letter (unpack3 p)
+four_letters_lem : (p : List ℕ) → AllByRecursion Byte p → AllByRecursion Letter (unpack3 p)
 four_letters_lem p h =
     let a = byte_at p 0 h in
     let b = byte_at p 1 h in
@@ -90,7 +90,7 @@ four_letters_lem p h =
     let g = bits_of_bytes p in
     (six_letter (g / 262144) (omega arith), (six_letter (g / 4096 % 64) (omega arith), (six_letter (g / 64 % 64) (omega arith), (six_letter (g % 64) (omega arith), tt))))
 
-unpacked_letters : (n : ℕ) (p : List ℕ) → All Byte p → All Letter (grouped n 3 unpack3 p)
+unpacked_letters : (n : ℕ) (p : List ℕ) → AllByRecursion Byte p → AllByRecursion Letter (grouped n 3 unpack3 p)
 unpacked_letters zero p h = tt
 unpacked_letters (suc n) p h =
     All-append Letter (unpack3 (take 3 p)) (grouped n 3 unpack3 (drop 3 p)) (four_letters_lem (take 3 p) (All-take Byte 3 p h)) (unpacked_letters n (drop 3 p) (All-drop Byte 3 p h))
@@ -112,7 +112,7 @@ reads_back t h =
       same = rw n (regrouped pack4 4 3 (λ _. refl) unpack3 Letter unpack_pack (length t / 4) t (omega arith) (letters_all t f.1));
     }
 
-pub packs_again : (p : List ℕ) → All Byte p → packed? p ≡ true → PacksAgain p (unpacked p)
+pub packs_again : (p : List ℕ) → AllByRecursion Byte p → packed? p ≡ true → PacksAgain p (unpacked p)
 packs_again p b h =
     let m = eqb-true (length p % 3) 0 h in
     let l = length_unpacked p in

@@ -1,4 +1,4 @@
-use Rattle.std.proofs.Common.{◌≡◌, ℕ, List, [], ◌∷◌, ◌++◌, is_ok, vec_items, decimal, append_assoc}
+use Rattle.std.proofs.Common.{[], ◌∷◌, ◌++◌, is_ok, vec_items, decimal, append_assoc}
 use Rattle.hexdigits.specs.Hex.{hex_of}
 use Rattle.recording.proofs.Appending.{last_part, cut_short}
 use Rattle.recording.proofs.printer.write_answer.Goals as goal

@@ -1,4 +1,4 @@
-use Rattle.std.proofs.Common.{◌≡◌, List, [], ◌∷◌, ◌++◌, is_ok, vec_items, codes, decimal, append_assoc}
+use Rattle.std.proofs.Common.{[], ◌∷◌, ◌++◌, is_ok, vec_items, codes, decimal, append_assoc}
 use Rattle.recording.proofs.Appending.{last_part}
 use Rattle.recording.proofs.printer.write_refusal.Goals as goal
 

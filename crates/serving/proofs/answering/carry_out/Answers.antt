@@ -1,5 +1,5 @@
-use Rattle.std.proofs.Common.{◌≡◌, ℕ, List, set, Option, sym, ap, ◌∙◌}
-use Rattle.line.specs.Effects.{stores?, stored_by, flagged, flag_for, effect}
+use Rattle.std.proofs.Common.{◌≡◌, set, Option, ap, ◌∙◌}
+use Rattle.line.specs.Effects.{stored_by, flagged, flag_for}
 use Rattle.line.specs.Requests.{Asked, asked_by}
 use Rattle.line.specs.Views.{seen}
 use Rattle.rack.specs.Changes.{record_after}

@@ -1,4 +1,4 @@
-use Rattle.std.proofs.Common.{◌≡◌, set, Option, sym, ap, ◌∙◌}
+use Rattle.std.proofs.Common.{set, Option, sym, ap, ◌∙◌}
 use Rattle.line.specs.Effects.{flagged}
 use Rattle.rack.specs.declared.changes.Change.{Change}
 use Rattle.serving.proofs.Writes.{written_after, set_record, record_of_channel}

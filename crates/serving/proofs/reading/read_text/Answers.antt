@@ -1,6 +1,5 @@
 use Rattle.std.proofs.Common.{◌≡◌, ◌+◌, ◌<◌, length, take, sym, ap, ◌∙◌, arith}
 use Rattle.std.proofs.lemmas.List.{take_all}
-use Rattle.rack.specs.Refusals.{numbered}
 use Rattle.serving.proofs.Texts.{text_more, text_there}
 use Rattle.serving.proofs.reading.read_text.Goals as goal
 use Rattle.serving.proofs.reading.read_text.Goals.{in-Ok, in-Err}

@@ -1,4 +1,4 @@
-use Rattle.std.proofs.Common.{◌≡◌, ℕ, Some, None, Ok, Err, refl, arith}
+use Rattle.std.proofs.Common.{Ok, Err, refl}
 use Rattle.refusals.specs.Refusals.{number_of}
 use Rattle.frame.specs.Views.{frame_parts}
 use Rattle.line.specs.Views.{heard}

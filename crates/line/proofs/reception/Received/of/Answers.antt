@@ -1,8 +1,8 @@
-use Rattle.std.proofs.Common.{◌≡◌, ℕ, ◌-◌, List, length, take, drop, fold, refl, ◌∙◌}
+use Rattle.std.proofs.Common.{◌≡◌, ℕ, ◌-◌, List, length, take, drop, fold, refl}
 use lib.Bits.{bit_or}
 use Rattle.std.proofs.lemmas.List.{take_rest}
 use Rattle.frame.specs.Transmissions.{preambles_of}
-use Rattle.line.specs.Characters.{Reception, reception_of}
+use Rattle.line.specs.Characters.{reception_of}
 use Rattle.line.proofs.reception.Received.of.Goals as goal
 
 kept : (bytes marks span : List ℕ) (n m : ℕ) → n ≡ preambles_of bytes → span ≡ drop n bytes → m ≡ fold bit_or 0 (drop n marks)

@@ -5,8 +5,8 @@ use Rattle.refusals.specs.Refusals.{number_of}
 use Rattle.player.proofs.Printing.{one_uncalled}
 use Rattle.player.proofs.tape.Player.refuse.Goals as goal
 
-pub returns-else-is-err : goal.returns-else-is-err
-returns-else-is-err g c = λ h t.
+pub returns-else-is_err : goal.returns-else-is_err
+returns-else-is_err g c = λ h t.
     let p = c.args.self.now in
-    let ok : is_ok c.push-refusal.result ≡ true = search rules in
-    one_uncalled p.lost (vec_items p.lines) (vec_items c.push-refusal.new.lines) h (number_of c.args.refusal) (c.push-refusal.ensures ∙ cond-true _ _ _ ok) t
+    let ok : is_ok c.push_refusal.result ≡ true = search rules in
+    one_uncalled p.lost (vec_items p.lines) (vec_items c.push_refusal.new.lines) h (number_of c.args.refusal) (c.push_refusal.ensures ∙ cond-true _ _ _ ok) t
