@@ -1,17 +1,17 @@
 -- What a call does, from its one outcome.
-use Rattle.std.proofs.Common.{◌≡◌, ℕ, ◌<◌, ◌≤◌, Bool, true, false, cond, leb, List, [], ◌∷◌, ◌++◌, length, Some, None, Option, sym, refl, ap, ◌∙◌, subst, inl, inr}
-use Rattle.std.proofs.lemmas.Bool.{cases_Bool, le-leb, lt-leb}
+use Rattle.std.proofs.Common.{◌≡◌, ℕ, ◌<◌, ◌≤◌, Bool, true, false, cond, leb, List, [], ◌∷◌, ◌++◌, length, Some, None, Option, sym, refl, ◌∙◌, subst}
+use Rattle.std.proofs.lemmas.Bool.{le-leb, lt-leb}
 use Rattle.header.specs.Shares.{capacity_of}
 use Rattle.line.specs.Characters.{Character}
 use Rattle.receiver.specs.Holding.{Holds}
 use Rattle.receiver.specs.declared.state.Receiver.{Receiver}
 use Rattle.record.specs.declared.Record.{Record}
 use Rattle.runs.specs.Channel.{channel}
-use Rattle.runs.specs.Outcomes.{Outcome, outcome_of, outcome}
+use Rattle.runs.specs.Outcomes.{Outcome, outcome_of}
 use Rattle.runs.specs.Steps.{Step}
 use Rattle.runs.specs.Traces.{Call, Result, character, taken, refused, ◌▸◌}
 use Rattle.runs.proofs.SetUps.{calls_follow}
-use Rattle.panel.specs.Panels.{channels_of, capacity_for, outcome_for, records_for, Does}
+use Rattle.panel.specs.Panels.{channels_of, outcome_for, records_for, Does}
 
 -- the outcome o is that of the call, for the characters t
 pub record Comes (supply : Option ℕ) (records records' : List Record) (x' : Receiver) (o : Outcome channel) (result : Result channel) : Type 0 where

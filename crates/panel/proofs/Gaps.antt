@@ -1,5 +1,5 @@
 -- A gap serves just what the run relation says.
-use Rattle.std.proofs.Common.{◌≡◌, ℕ, ◌+◌, ◌<◌, ◌≤◌, min, Bool, true, false, cond, ◌&&◌, ltb, leb, List, [], ◌∷◌, map, length, take, set, Some, None, Option, sym, refl, ap, ◌∙◌, subst, inl, inr, arith}
+use Rattle.std.proofs.Common.{◌≡◌, ℕ, ◌+◌, ◌<◌, ◌≤◌, min, Bool, true, false, cond, ◌&&◌, ltb, leb, List, [], ◌∷◌, length, set, Some, None, Option, sym, refl, ap, ◌∙◌, subst, inl, inr, arith}
 use Rattle.std.specs.Result.{result_ok}
 use Rattle.std.specs.List.{AllByRecursion}
 use Rattle.std.proofs.ByRecursion.{All-drop}
@@ -9,12 +9,10 @@ use Rattle.frame.specs.Frames.{Parts, request_frame}
 use Rattle.frame.specs.Transmissions.{preambles_of, span_of}
 use Rattle.frame.proofs.Frames.{request_limit}
 use Rattle.header.specs.Shares.{capacity_of}
-use Rattle.line.specs.Addressing.{means}
 use Rattle.line.specs.Answers.{outcome, own_outcome, refused, answer_bytes}
 use Rattle.line.specs.Answers as line
 use Rattle.line.specs.Characters.{Character, Reception, received}
 use Rattle.line.specs.Whole.{frame_of}
-use Rattle.line.specs.declared.codes.Header.{Header}
 use Rattle.rack.specs.Meaning.{channel_of}
 use Rattle.receiver.specs.Holding.{Holds}
 use Rattle.receiver.specs.Summaries.{Summary, summary_of, held, reception}
@@ -25,9 +23,9 @@ use Rattle.runs.specs.Channel.{channel, frame_in, means_frame, nameplate}
 use Rattle.runs.specs.Damage.{bytes_in}
 use Rattle.runs.specs.Outcomes.{Outcome, outcome_of, sole, answered_by, ended}
 use Rattle.runs.specs.Outcomes as runs
-use Rattle.runs.specs.Places.{element_at, next_place, only_place}
+use Rattle.runs.specs.Places.{next_place, only_place}
 use Rattle.runs.specs.Shares.{others}
-use Rattle.runs.specs.Traces.{Result, gap, silent, answered}
+use Rattle.runs.specs.Traces.{gap, silent, answered}
 use Rattle.runs.proofs.Unsound.{whole_frame}
 use Rattle.serving.specs.Meant.{sole_meant}
 use Rattle.serving.specs.Serving.{Served, silence, header_for, served_by, served_record, served_place, served_frame, served}

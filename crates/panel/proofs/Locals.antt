@@ -1,10 +1,10 @@
 -- Samples and key turns, by what the rack answers.
-use Rattle.std.proofs.Common.{◌≡◌, ℕ, ◌≤◌, Bool, true, false, cond, ◌&&◌, leb, List, [], ◌∷◌, length, set, is_some, Some, None, Ok, Err, Option, sym, refl, ap, ◌∙◌, subst, true≢false, arith}
+use Rattle.std.proofs.Common.{◌≡◌, ℕ, ◌≤◌, Bool, true, false, cond, ◌&&◌, leb, List, [], length, is_some, Some, None, Ok, Err, Option, sym, refl, ap, ◌∙◌, subst, true≢false, arith}
 use Rattle.std.specs.Result.{result_err}
 use Rattle.std.specs.declared.result.Result as results
 use Rattle.std.proofs.lemmas.Bool.{le-leb, leb-true, cond-true}
 use Rattle.line.specs.Characters.{Character}
-use Rattle.rack.specs.Changes.{written, answer_of, record_after}
+use Rattle.rack.specs.Changes.{written, answer_of}
 use Rattle.rack.specs.Meaning.{channel_of, answered, written_at, records_after}
 use Rattle.record.specs.Readings.{is_finite}
 use Rattle.record.specs.declared.Record.{Record}

@@ -1,5 +1,5 @@
 -- A gap's answer and buffer as the result of a trace.
-use Rattle.std.proofs.Common.{◌≡◌, ℕ, ◌<◌, ◌≤◌, Bool, true, false, cond, List, [], ◌∷◌, ◌++◌, length, take, drop, Some, None, Ok, Err, Option, sym, refl, ap, ◌∙◌, subst, arith, length-append, length-drop}
+use Rattle.std.proofs.Common.{◌≡◌, ℕ, ◌<◌, ◌≤◌, List, [], length, take, drop, Some, None, Ok, Option, sym, refl, ap, ◌∙◌, subst, arith, length-append, length-drop}
 use Rattle.std.proofs.lemmas.List.{take_at}
 use Rattle.std.proofs.lemmas.Bool.{le-ltb, lt-ltb, cond-false}
 use Rattle.line.specs.Characters.{Character, Reception}
@@ -10,11 +10,11 @@ use Rattle.record.specs.declared.Record.{Record}
 use Rattle.runs.specs.Channel.{channel}
 use Rattle.runs.specs.Outcomes.{outcome_of}
 use Rattle.runs.specs.Traces.{Result, gap, refused}
-use Rattle.serving.specs.Serving.{Served, served_into, channel_and_length, front_of}
+use Rattle.serving.specs.Serving.{served_into, channel_and_length, front_of}
 use Rattle.panel.specs.Panels.{channels_of, outcome_for, Does, served_reception, panel_served, served_result, gap_of, gap_result_of, gap_length, buffer_of}
 use Rattle.panel.specs.declared.outcomes.Gap.{Gap}
 use Rattle.panel.specs.declared.outcomes.Gap.TheVariants.{Silent, Answered}
-use Rattle.panel.proofs.Doing.{Comes, does}
+use Rattle.panel.proofs.Doing.{does}
 use Rattle.panel.proofs.Gaps.{gap_comes}
 
 pub panel_is : (o : Option ℕ) (n : ℕ) (rs : List Record) (s : Summary) (x : Reception) (buffer : List ℕ) → o ≡ Some n → Some x ≡ reception s → 64 ≤ length buffer

@@ -1,11 +1,11 @@
 -- The outcome of a transmission at a channel, with what the header objects to apart.
-use Rattle.std.proofs.Common.{◌≡◌, ℕ, ◌+◌, Bool, true, false, cond, not, ◌&&◌, eqb, ltb, leb, sym, refl, ap, ◌∙◌, inl, inr}
+use Rattle.std.proofs.Common.{◌≡◌, ℕ, ◌+◌, cond, not, ◌&&◌, ltb, leb, refl, inl, inr}
 use Rattle.std.proofs.lemmas.Bool.{cases_Bool, cases_lt, lt-ltb, le-ltb, lt-leb, le-leb}
 use Rattle.frame.specs.Frames.{Parts}
 use Rattle.header.specs.Shares.{capacity_of}
-use Rattle.line.specs.Answers.{Outcome, outcome, own_outcome, refused}
+use Rattle.line.specs.Answers.{outcome, own_outcome, refused}
 use Rattle.line.specs.Characters.{Reception}
-use Rattle.line.specs.Codes.{asks?, asked_share, code_of, own_code}
+use Rattle.line.specs.Codes.{asks?, asked_share}
 use Rattle.line.specs.Whole.{sound?}
 use Rattle.line.specs.declared.codes.Header.{Header}
 use Rattle.record.specs.declared.Record.{Record}

@@ -1,11 +1,9 @@
 -- A run, one call after another.
-use Rattle.std.proofs.Common.{◌≡◌, ℕ, ◌+◌, ◌-◌, ◌^◌, ◌≤◌, List, [], ◌∷◌, ◌++◌, length, Some, Option, sym, refl, ap, ◌∙◌, subst, inl, inr, append_assoc, append-nil, arith, length-append}
+use Rattle.std.proofs.Common.{◌≡◌, ℕ, ◌+◌, ◌-◌, ◌^◌, ◌≤◌, List, [], ◌∷◌, ◌++◌, length, Option, sym, ap, ◌∙◌, subst, inr, append_assoc, append-nil, arith, length-append}
 use Rattle.calls.specs.Views as calls
 use Rattle.calls.specs.declared.Call.{Call}
 use Rattle.calls.specs.declared.Outcome.{Outcome}
 use Rattle.header.specs.Shares.{capacity_of}
-use Rattle.line.specs.Characters.{Character}
-use Rattle.receiver.specs.Holding.{Holds}
 use Rattle.receiver.specs.declared.state.Receiver.{Receiver}
 use Rattle.record.specs.declared.Record.{Record}
 use Rattle.runs.specs.Channel.{channel}

@@ -1,5 +1,5 @@
 -- Lines that wait, and lines that were written out.
-use Rattle.std.proofs.Common.{◌≡◌, ℕ, Bool, true, false, List, [], ◌∷◌, ◌++◌, sym, refl, ap, ◌∙◌, subst, append_assoc, append-nil}
+use Rattle.std.proofs.Common.{◌≡◌, ℕ, Bool, false, List, [], ◌∷◌, ◌++◌, sym, ap, ◌∙◌, subst, append_assoc, append-nil}
 use Rattle.recording.specs.Lines.{refusal_line, line_of}
 use Rattle.runs.specs.Channel.{channel}
 use Rattle.runs.specs.Traces.{Event, Trace}

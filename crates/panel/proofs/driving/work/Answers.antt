@@ -1,4 +1,4 @@
-use Rattle.std.proofs.Common.{◌≡◌, List, length, sym, ap, ◌∙◌, subst, inl, arith, length-append, true≢false}
+use Rattle.std.proofs.Common.{List, sym, ap, subst, inl, arith, true≢false}
 use Rattle.record.specs.declared.Record.{Record}
 use Rattle.calls.specs.Views.{call_of}
 use Rattle.runs.specs.SetUps.{SetUp}

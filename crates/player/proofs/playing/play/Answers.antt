@@ -1,4 +1,4 @@
-use Rattle.std.proofs.Common.{◌≡◌, ℕ, List, Ok, Option, Result, sym, ap, ◌∙◌, subst}
+use Rattle.std.proofs.Common.{◌≡◌, ℕ, List, Ok, Option, Result, ap, ◌∙◌, subst}
 use Rattle.rack.specs.Files.{file_records}
 use Rattle.record.specs.declared.Record.{Record}
 use Rattle.shelf.specs.Rows.{records_in}

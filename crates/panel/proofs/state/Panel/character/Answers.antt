@@ -1,4 +1,4 @@
-use Rattle.std.proofs.Common.{◌≡◌, ◌<◌, ◌≤◌, [], ◌∷◌, ◌++◌, refl, true≢false, arith, rules}
+use Rattle.std.proofs.Common.{◌<◌, ◌≤◌, [], ◌∷◌, ◌++◌, refl, true≢false, arith}
 use Rattle.line.specs.Characters.{Character}
 use Rattle.runs.specs.Traces.{character, taken, refused}
 use Rattle.panel.specs.Panels.{outcome_for}

@@ -1,4 +1,4 @@
-use Rattle.std.proofs.Common.{◌≡◌, ◌<◌, ◌≤◌, length, Ok, refl, true≢false, arith}
+use Rattle.std.proofs.Common.{◌<◌, ◌≤◌, length, Ok, refl, true≢false, arith}
 use Rattle.receiver.specs.Summaries.{held}
 use Rattle.runs.specs.Traces.{gap, refused}
 use Rattle.panel.specs.Panels.{outcome_for, panel_served, gap_result_of}

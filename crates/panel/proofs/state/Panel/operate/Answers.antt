@@ -1,4 +1,4 @@
-use Rattle.std.proofs.Common.{◌≡◌, true, ◌&&◌, leb, length, is_some, sym, refl, ap, ◌∙◌, true≢false, rules}
+use Rattle.std.proofs.Common.{◌≡◌, true, ◌&&◌, leb, length, is_some, refl, ap, ◌∙◌, true≢false, rules}
 use Rattle.rack.specs.Changes.{answer_of}
 use Rattle.rack.specs.Meaning.{written_at, records_after}
 use Rattle.rack.specs.Refusals as rack

@@ -1,6 +1,4 @@
-use Rattle.std.proofs.Common.{◌≡◌, vec_items, sym, subst}
-use Rattle.runs.specs.Channel.{channel}
-use Rattle.runs.specs.Traces.{Trace}
+use Rattle.std.proofs.Common.{vec_items, sym, subst}
 use Rattle.player.specs.Printing.{Told}
 use Rattle.player.specs.declared.tape.Player.{Player}
 use Rattle.player.proofs.driving.PlayerDriver.next.Goals as goal

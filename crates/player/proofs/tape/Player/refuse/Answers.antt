@@ -1,6 +1,5 @@
-use Rattle.std.proofs.Common.{◌≡◌, true, cond, ◌++◌, is_ok, vec_items, ◌∙◌, rules}
+use Rattle.std.proofs.Common.{◌≡◌, true, is_ok, vec_items, ◌∙◌, rules}
 use Rattle.std.proofs.lemmas.Bool.{cond-true}
-use Rattle.recording.specs.Lines.{refusal_line}
 use Rattle.refusals.specs.Refusals.{number_of}
 use Rattle.player.proofs.Printing.{one_uncalled}
 use Rattle.player.proofs.tape.Player.refuse.Goals as goal
