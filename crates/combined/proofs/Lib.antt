@@ -1,1 +1,2 @@
+pub mod Ceilings
 pub mod Sides

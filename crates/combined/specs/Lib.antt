@@ -1,3 +1,3 @@
 pub mod Ceilings
 pub mod Sides
-pub mod CeilingsLemmas
+pub mod CeilingLaw

@@ -1,5 +1,5 @@
 ghost use Rattle.combined.specs.Ceilings.{lowered_all};
-ghost use Rattle.combined.specs.CeilingsLemmas.{all_lowered};
+ghost use Rattle.combined.specs.CeilingLaw.{all_lowered};
 
 use rack::{Change, Rack, RackRefusal};
 use record::{Fields, Reading};

@@ -9,7 +9,7 @@ use Rattle.std.proofs.ByRecursion.{All-drop}
 use Rattle.frame.specs.Check.{check_of}
 use Rattle.frame.specs.Frames.{Parts, Framed, StartFrame, request_frame}
 use Rattle.frame.specs.Transmissions.{preambles_of, span_of, Request, Sent, Transmits, request_of, read_span, read_request}
-use Rattle.frame.specs.Making.{request?, start_for, checked, frame_bytes, sent, MadeAgain}
+use Rattle.frame.specs.Making.{request?, start_for, checked, frame_bytes, sent, transmission, MadeAgain}
 use Rattle.std.specs.List.{AllByRecursion}
 use Rattle.frame.proofs.Frames.{request_read, read_request_lem, data_limit}
 
@@ -144,3 +144,10 @@ made_again q bytes b h few = elim h.framed [
 
 pub length_sent : (short long : ℕ) (q : Request) → length (sent short long q) ≡ q.preambles + length q.address + length q.«data» + 4
 length_sent short long q = simp (length-append, length-replicate) (omega arith)
+
+-- both of a request
+pub transmits : (q : Request) → request? q ≡ true → Transmits q (transmission q)
+transmits q h = request_sent q (transmission q) (sends 2 130 q h)
+
+pub length_transmission : (q : Request) → length (transmission q) ≡ q.preambles + length q.address + length q.«data» + 4
+length_transmission q = length_sent 2 130 q

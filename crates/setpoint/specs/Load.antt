@@ -4,7 +4,7 @@ use Rattle.std.specs.Float.{float_is_finite, ratio_ceil, nan, inf, fin}
 use Rattle.setpoint.specs.Value.{nought}
 
 -- The load of a setpoint, a term of this project: the least whole number that is not below its value times 1,024.
--- A value m * 2 ^ e is the fraction m * up e / down e, and `raised` divides and rounds up.
+-- A value m * 2 ^ e is the fraction m * up e / down e, and `ratio_ceil` divides and rounds up.
 -- What is not finite has no load, and 0 stands in its place.
 abbrev pub load_of : Float → ℕ
 load_of nan = 0

@@ -11,7 +11,8 @@ use Rattle.rack.specs.declared.files.RecordError.{RecordError}
 use Rattle.rack.specs.declared.files.FileFault.TheVariants.{Record as Bad}
 use Rattle.rack.specs.Files.{rows_of, fault_in, first_bad, file_answer}
 use Rattle.shelf.specs.Rows.{all_lawful?}
-use Rattle.shelf.specs.RowsLemmas.{all_lawful, lawful_all}
+use Rattle.shelf.proofs.Rows.{lawful_all}
+use Rattle.shelf.specs.ShelfLaw.{all_lawful}
 
 rows_step : (file : List ℕ) (count i : ℕ) → i < count → rows_of (count - i) (drop (i * 80) file) ≡ take 80 (drop (i * 80) file) ∷ rows_of (count - (i + 1)) (drop ((i + 1) * 80) file)
 rows_step file count i h =

@@ -1,7 +1,7 @@
 ghost use Rattle.std.specs.Prelude.{◌≡◌};
 ghost use Rattle.rack.specs.Meaning.{channel_of};
 ghost use Rattle.shelf.specs.Rows.{records_in};
-ghost use Rattle.shelf.specs.RowsLemmas.{all_lawful};
+ghost use Rattle.shelf.specs.ShelfLaw.{all_lawful};
 
 use crate::shelf::Shelf;
 use rack::{Change, Rack, RackRefusal, apply};

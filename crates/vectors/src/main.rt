@@ -9,9 +9,10 @@
 #![tactic(auto)]
 
 use anyhow::anyhow;
-use frame::{Address, Master, Transmission};
+use frame::{Address, Master};
+use hexdigits::HexFault;
 use refusals::Refusal;
-use words::{from_bytes, to_bytes};
+use std::alloc::Global;
 
 // What every byte of a lent buffer is before the call.
 const UNTOUCHED: u8 = 0xA5;
@@ -30,66 +31,46 @@ fn run(rt: &HostRuntime) -> anyhow::Result<()> {
 }
 
 fn call(rt: &HostRuntime, words: &[&str]) -> anyhow::Result<()> {
+    let heap = rt.alloc();
     match words {
-        ["pack", text, length] => pack(rt, text, length),
-        ["unpack", packed, length] => unpack(rt, packed, length),
-        ["make", preambles, address, command, data, length] => {
-            make(rt, preambles, address, command, data, length)
+        ["pack", text, length] => {
+            let text = bytes(heap, text)?;
+            let mut out = vec![in heap; UNTOUCHED; length.parse::<usize>()?]?;
+            let answer = text::pack(text.as_slice(), out.as_mut_slice());
+            filled(rt, answer, out.as_slice())
         }
-        ["read", sent] => read(rt, sent),
+        ["unpack", packed, length] => {
+            let packed = bytes(heap, packed)?;
+            let mut out = vec![in heap; UNTOUCHED; length.parse::<usize>()?]?;
+            let answer = text::unpack(packed.as_slice(), out.as_mut_slice());
+            filled(rt, answer, out.as_slice())
+        }
+        ["make", preambles, address, command, data, length] => {
+            let address = bytes(heap, address)?;
+            let data = bytes(heap, data)?;
+            let mut out = vec![in heap; UNTOUCHED; length.parse::<usize>()?]?;
+            let answer = frame::make_request(
+                preambles.parse::<usize>()?,
+                address.as_slice(),
+                command.parse::<u8>()?,
+                data.as_slice(),
+                out.as_mut_slice(),
+            );
+            filled(rt, answer, out.as_slice())
+        }
+        ["read", sent] => read(rt, bytes(heap, sent)?.as_slice()),
         _ => Err(anyhow!("a line with no call")),
     }
 }
 
-fn pack(rt: &HostRuntime, text: &str, length: &str) -> anyhow::Result<()> {
-    let text = to_bytes(rt.alloc(), text)?;
-    let mut out = vec![in rt.alloc(); UNTOUCHED; length.parse::<usize>()?]?;
-    let answer = text::pack(text.as_slice(), out.as_mut_slice());
-    filled(rt, answer, out.as_slice())
-}
-
-fn unpack(rt: &HostRuntime, packed: &str, length: &str) -> anyhow::Result<()> {
-    let packed = to_bytes(rt.alloc(), packed)?;
-    let mut out = vec![in rt.alloc(); UNTOUCHED; length.parse::<usize>()?]?;
-    let answer = text::unpack(packed.as_slice(), out.as_mut_slice());
-    filled(rt, answer, out.as_slice())
-}
-
-fn make(
-    rt: &HostRuntime,
-    preambles: &str,
-    address: &str,
-    command: &str,
-    data: &str,
-    length: &str,
-) -> anyhow::Result<()> {
-    let preambles = preambles.parse::<usize>()?;
-    let command = command.parse::<u8>()?;
-    let address = to_bytes(rt.alloc(), address)?;
-    let data = to_bytes(rt.alloc(), data)?;
-    let mut out = vec![in rt.alloc(); UNTOUCHED; length.parse::<usize>()?]?;
-    let answer = frame::make_request(
-        preambles,
-        address.as_slice(),
-        command,
-        data.as_slice(),
-        out.as_mut_slice(),
-    );
-    filled(rt, answer, out.as_slice())
-}
-
-fn read(rt: &HostRuntime, sent: &str) -> anyhow::Result<()> {
-    let sent = to_bytes(rt.alloc(), sent)?;
-    match frame::read_request(sent.as_slice()) {
-        Ok(request) => show(rt, request),
+fn read(rt: &HostRuntime, sent: &[u8]) -> anyhow::Result<()> {
+    let request = match frame::read_request(sent) {
+        Ok(request) => request,
         Err(refusal) => {
             println!(rt; "refused {} {refusal}", refusal.number())?;
-            Ok(())
+            return Ok(());
         }
-    }
-}
-
-fn show(rt: &HostRuntime, request: Transmission<'_>) -> anyhow::Result<()> {
+    };
     let master = match request.address.master() {
         Master::Primary => "primary",
         Master::Secondary => "secondary",
@@ -98,8 +79,8 @@ fn show(rt: &HostRuntime, request: Transmission<'_>) -> anyhow::Result<()> {
         Address::Short(_) => "short",
         Address::Long(_) => "long",
     };
-    let address = from_bytes(rt.alloc(), request.address.bytes())?;
-    let data = from_bytes(rt.alloc(), request.data)?;
+    let address = digits(rt.alloc(), request.address.bytes())?;
+    let data = digits(rt.alloc(), request.data)?;
     println!(rt;
         "{} {master} {width} {address} {} {data}",
         request.preambles, request.command
@@ -108,10 +89,28 @@ fn show(rt: &HostRuntime, request: Transmission<'_>) -> anyhow::Result<()> {
 }
 
 fn filled(rt: &HostRuntime, answer: Result<usize, Refusal>, out: &[u8]) -> anyhow::Result<()> {
-    let out = from_bytes(rt.alloc(), out)?;
+    let out = digits(rt.alloc(), out)?;
     match answer {
         Ok(length) => println!(rt; "{length} {out}")?,
         Err(refusal) => println!(rt; "refused {} {refusal} {out}", refusal.number())?,
     }
     Ok(())
+}
+
+// The bytes of a word of the table.
+fn bytes(heap: Global, word: &str) -> Result<Vec<u8>, HexFault> {
+    match word {
+        "-" => Ok(Vec::new(heap)),
+        digits => hexdigits::parse_hex(heap, digits.as_bytes()),
+    }
+}
+
+// Bytes as a word of the table.
+fn digits(heap: Global, bytes: &[u8]) -> anyhow::Result<String> {
+    if bytes.is_empty() {
+        return Ok(String::from_str(heap, "-")?);
+    }
+    let mut text = Vec::new(heap);
+    hexdigits::push_hex(&mut text, bytes)?;
+    Ok(String::from_utf8(text)?)
 }

@@ -1,6 +1,6 @@
 use Rattle.std.proofs.Common.{sym, ◌∙◌, rules}
 use Rattle.rack.specs.Meaning.{told}
-use Rattle.combined.specs.CeilingsLemmas.{told_lowered}
+use Rattle.combined.proofs.Ceilings.{told_lowered}
 use Rattle.combined.proofs.ceiling.CeilingRack.count.Goals as goal
 
 pub returns : goal.returns

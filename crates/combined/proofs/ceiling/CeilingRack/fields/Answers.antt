@@ -1,7 +1,7 @@
 use Rattle.std.proofs.Common.{Ok, ap, ◌∙◌, rules}
 use Rattle.std.proofs.lemmas.Result.{err_from_is_err_and}
 use Rattle.combined.specs.Ceilings.{lowered_fields}
-use Rattle.combined.specs.CeilingsLemmas.{on_ok, fields_lowered}
+use Rattle.combined.proofs.Ceilings.{on_ok, fields_lowered}
 use Rattle.combined.proofs.ceiling.CeilingRack.fields.Goals as goal
 
 pub returns-in_err-fields : goal.returns-in_err-fields

@@ -1,5 +1,5 @@
 use Rattle.std.proofs.Common.{Ok, ◌∙◌}
-use Rattle.combined.specs.CeilingsLemmas.{asked_below}
+use Rattle.combined.proofs.Ceilings.{asked_below}
 use Rattle.combined.proofs.ceiling.CeilingRack.reading.Goals as goal
 
 pub returns : goal.returns

@@ -1,5 +1,5 @@
 use Rattle.std.proofs.Common.{cond, leb, get_or, Ok, Err, ◌∙◌}
-use Rattle.combined.specs.CeilingsLemmas.{asked_below}
+use Rattle.combined.proofs.Ceilings.{asked_below}
 use Rattle.combined.proofs.ceiling.CeilingRack.text_byte.Goals as goal
 
 pub returns : goal.returns

@@ -5,7 +5,7 @@ use Rattle.combined.specs.Ceilings.{lowered_all}
 use Rattle.rack.specs.Changes.{answer_of}
 use Rattle.rack.specs.Meaning.{written_at}
 use Rattle.rack.specs.Refusals.{number_of}
-use Rattle.combined.specs.CeilingsLemmas.{Passed, passed_plain, passed_setpoint, refused_setpoint}
+use Rattle.combined.proofs.Ceilings.{Passed, passed_plain, passed_setpoint, refused_setpoint}
 use Rattle.rack.proofs.Meaning.{refused_after}
 use Rattle.combined.proofs.ceiling.CeilingRack.write.Goals as goal
 

@@ -7,7 +7,7 @@ use Rattle.rack.specs.Blank.{blank_record}
 use Rattle.rack.specs.Lawful.{lawful?}
 use Rattle.rack.proofs.Beginning.{blank_lawful}
 use Rattle.rack.proofs.Lawful.{law_decided}
-use Rattle.shelf.specs.RowsLemmas.{lawful_one}
+use Rattle.shelf.proofs.Rows.{lawful_one}
 use Rattle.shelf.proofs.shelf.Shelf.blank.Goals as goal
 
 -- the row holds the blank record

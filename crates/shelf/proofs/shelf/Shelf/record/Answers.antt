@@ -1,5 +1,5 @@
 use Rattle.std.proofs.Common.{Some, sym, ap, ◌∙◌, arith}
-use Rattle.shelf.specs.RowsLemmas.{channel_row, channel_none}
+use Rattle.shelf.proofs.Rows.{channel_row, channel_none}
 use Rattle.shelf.proofs.shelf.Shelf.record.Goals as goal
 
 pub returns-then-row-self : goal.returns-then-row-self

@@ -1,4 +1,4 @@
-use Rattle.shelf.specs.RowsLemmas.{told_records}
+use Rattle.shelf.proofs.Rows.{told_records}
 use Rattle.shelf.proofs.shelf_rack.ShelfRack.count.Goals as goal
 
 pub returns : goal.returns

@@ -5,7 +5,8 @@ use Rattle.rack.specs.Changes.{answer_of, written}
 use Rattle.rack.specs.Meaning.{answered, written_at}
 use Rattle.rack.proofs.Meaning.{accepted_after, channel_lawful}
 use Rattle.shelf.specs.Rows.{records_in}
-use Rattle.shelf.specs.RowsLemmas.{all_lawful, set_row, lawful_set}
+use Rattle.shelf.proofs.Rows.{set_row, lawful_set}
+use Rattle.shelf.specs.ShelfLaw.{all_lawful}
 use Rattle.shelf.proofs.shelf_rack.ShelfRack.write.Goals as goal
 
 pub invariant_of-self : goal.invariant_of-self

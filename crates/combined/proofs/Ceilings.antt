@@ -4,8 +4,6 @@ use Rattle.std.proofs.Common.{inl, inr, sym, ap, ◌∙◌, arith}
 use Rattle.std.specs.Float.Ieee.{lt}
 use Rattle.std.specs.Float.{float_is_finite}
 use Rattle.std.specs.Option.{option_map}
-use Rattle.std.specs.List.{AllByRecursion}
-use Rattle.std.proofs.ByRecursion.{All-map, All-weaker}
 use Rattle.std.proofs.lemmas.List.{map-set, length-map}
 use Rattle.std.proofs.lemmas.Bool.{cases_lt, lt-ltb, le-ltb}
 use Rattle.setpoint.specs.Load.{load_of}
@@ -15,7 +13,6 @@ use Rattle.setpoint.specs.declared.SetpointRefusal.{SetpointRefusal}
 use Rattle.setpoint.specs.declared.SetpointRefusal.TheVariants.{NotANumber, AboveCeiling, BelowZero}
 use Rattle.record.specs.declared.Fields.{Fields}
 use Rattle.record.specs.declared.Record.{Record}
-use Rattle.record.specs.Lawful.{Lawful}
 use Rattle.record.specs.Readings.{is_finite}
 use Rattle.rack.specs.declared.changes.Change.{Change}
 use Rattle.rack.specs.declared.changes.Change.TheVariants.{PollingAddress, Preambles, AssemblyNumber, Changed, Key, Sample, Text, Setpoint}
@@ -57,25 +54,6 @@ fields_on p None = refl
 
 pub fields_lowered : (p : ℕ) (records : List Record) (c : ℕ) → on_ok (lowered_fields p) (asked (λ r. r.fields) records c) ≡ asked (λ r. r.fields) (lowered_all p records) c
 fields_lowered p records c = fields_on p (channel_of records c) ∙ asked_below (λ r. Ok r.fields) p records c
-
--- the law stands under a ceiling
-lowered_lawful : (p : ℕ) (r : Record) → Lawful r → Lawful (lowered p r)
-lowered_lawful p r h = record {
-  fields = record {
-    identification = h.fields.identification;
-    polling_address = h.fields.polling_address;
-    preambles = h.fields.preambles;
-    assembly_number = h.fields.assembly_number;
-    setpoint = h.fields.setpoint;
-    ceiling = omega (arith, h.fields.ceiling);
-    full_scale = h.fields.full_scale;
-  };
-  reading = h.reading;
-  text = h.text;
-}
-
-pub all_lowered : (p : ℕ) (records : List Record) → AllByRecursion Lawful records → AllByRecursion Lawful (lowered_all p records)
-all_lowered p records h = All-map Lawful (lowered p) records (All-weaker Lawful (λ r. Lawful (lowered p r)) (lowered_lawful p) records h)
 
 -- WRITES
 

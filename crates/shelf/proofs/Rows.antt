@@ -4,7 +4,7 @@ use Rattle.std.proofs.Common.{ap, ◌∙◌, le_of_suc-le-suc, arith}
 use Rattle.std.specs.List.{AllByRecursion}
 use Rattle.std.proofs.ByRecursion.{All-set}
 use Rattle.std.proofs.lemmas.List.{length-take-le, get_or-take, map-set, length-map}
-use Rattle.std.proofs.lemmas.Bool.{and_parts, and_from, and_left, le-ltb, cond-false}
+use Rattle.std.proofs.lemmas.Bool.{and_from, and_left, le-ltb, cond-false}
 use Rattle.record.specs.declared.Record.{Record}
 use Rattle.record.specs.Lawful.{Lawful}
 use Rattle.record.specs.Layout.{decoded}
@@ -13,11 +13,7 @@ use Rattle.rack.specs.Meaning.{told, record_at, channel_of}
 use Rattle.rack.proofs.Lawful.{law_decided}
 use Rattle.rack.proofs.Channels.{channel_plain}
 use Rattle.shelf.specs.Rows.{records_in, all_lawful?}
-
--- the test of all records tells that all are lawful
-pub all_lawful : (records : List Record) → all_lawful? records ≡ true → AllByRecursion Lawful records
-all_lawful [] h = tt
-all_lawful (r ∷ records) h = let p = and_parts (lawful? r) (all_lawful? records) h in ((law_decided r).0 p.0, all_lawful records p.1)
+use Rattle.shelf.specs.ShelfLaw.{all_lawful}
 
 pub lawful_all : (records : List Record) → AllByRecursion Lawful records → all_lawful? records ≡ true
 lawful_all [] h = refl
