@@ -19,6 +19,9 @@ struct Console {
 }
 
 impl Tape for Console {
+    // What a terminal or a pipe took is not known.
+    ghost written = { λ c out. Unit {0} };
+
     fn exchange(&mut self, lines: &[u8], block: &mut [u8]) -> Option<usize> {
         if self.rt.stdout().write_all(lines).is_err() {
             return None;

@@ -10,6 +10,7 @@ pub data Prints : Trace channel → List ℕ → Type 0 where
   called : {h : Trace channel} {lines : List ℕ} (e : Event channel) → Prints h lines → Prints (h ++ (e ∷ [])) (lines ++ line_of e.result)
   uncalled : {h : Trace channel} {lines : List ℕ} (number : ℕ) → Prints h lines → Prints h (lines ++ refusal_line number)
 
--- Unless a line was lost, for want of memory or of the output, what was written out and the lines that wait are those of the trace.
-abbrev pub Told : Bool → List ℕ → Trace channel → Type 0
-Told lost waiting h = lost ≡ false → (written : List ℕ) × Prints h (written ++ waiting)
+-- Unless a line was lost, for want of memory or of the output, some bytes may have been written out, and these and the lines that wait
+-- are the lines of the trace.
+abbrev pub Told : (List ℕ → Type 0) → Bool → List ℕ → Trace channel → Type 0
+Told written lost waiting h = lost ≡ false → (out : List ℕ) × (written out × Prints h (out ++ waiting))

@@ -12,7 +12,7 @@ use std::alloc::Global;
 
 impl<T: Tape + Drop> Player<T> {
     pub fn new(heap: Global, tape: T) -> Player<T>
-        ensures told { Told result.lost result.lines.items [] }
+        ensures told { T.Tape.written tape [] → Told (T.Tape.written result.tape) result.lost result.lines.items [] }
         ensures fresh { result.lost ≡ false }
     {
         Player {
@@ -35,7 +35,7 @@ impl<T: Tape + Drop> Player<T> {
 
     // The next event of the block, if it has one more.
     fn next_event(&mut self) -> Option<[u8; EVENT_LENGTH]>
-        ensures { (h : Trace flowChannel) → Told self.old.lost self.old.lines.items h → Told self.new.lost self.new.lines.items h }
+        ensures { (h : Trace flowChannel) → Told (T.Tape.written self.old.tape) self.old.lost self.old.lines.items h → Told (T.Tape.written self.new.tape) self.new.lost self.new.lines.items h }
     {
         while self.at < self.len {
             let byte = self.block[self.at];
@@ -49,7 +49,7 @@ impl<T: Tape + Drop> Player<T> {
 
     // The line of an event that is no call.
     fn refuse(&mut self, refusal: Refusal)
-        ensures { (h : Trace flowChannel) → Told self.old.lost self.old.lines.items h → Told self.new.lost self.new.lines.items h }
+        ensures { (h : Trace flowChannel) → Told (T.Tape.written self.old.tape) self.old.lost self.old.lines.items h → Told (T.Tape.written self.new.tape) self.new.lost self.new.lines.items h }
     {
         if push_refusal(&mut self.lines, refusal).is_err() {
             self.lost = true;
@@ -58,7 +58,7 @@ impl<T: Tape + Drop> Player<T> {
 
     // Writes the lines out and reads the next block: whether one came.
     fn refill(&mut self) -> bool
-        ensures { (h : Trace flowChannel) → Told self.old.lost self.old.lines.items h → Told self.new.lost self.new.lines.items h }
+        ensures { (h : Trace flowChannel) → Told (T.Tape.written self.old.tape) self.old.lost self.old.lines.items h → Told (T.Tape.written self.new.tape) self.new.lost self.new.lines.items h }
     {
         let came = self.tape.exchange(self.lines.as_slice(), &mut self.block);
         self.lines.clear();
@@ -78,7 +78,7 @@ impl<T: Tape + Drop> Player<T> {
 
     // The line of a last partial event, written out.
     fn finish(&mut self)
-        ensures { (h : Trace flowChannel) → Told self.old.lost self.old.lines.items h → Told self.new.lost self.new.lines.items h }
+        ensures { (h : Trace flowChannel) → Told (T.Tape.written self.old.tape) self.old.lost self.old.lines.items h → Told (T.Tape.written self.new.tape) self.new.lost self.new.lines.items h }
     {
         if self.lost || self.pending.is_empty() {
             return;
@@ -89,11 +89,11 @@ impl<T: Tape + Drop> Player<T> {
 }
 
 impl<T: Tape + Drop> Driver for Player<T> {
-    ghost told = { λ d h. Told d.lost d.lines.items h };
+    ghost told = { λ d h. Told (T.Tape.written d.tape) d.lost d.lines.items h };
 
-    ghost named = { λ d h c. Told d.lost d.lines.items h };
+    ghost named = { λ d h c. Told (T.Tape.written d.tape) d.lost d.lines.items h };
 
-    ghost ended = { λ d h. Told d.lost d.lines.items h };
+    ghost ended = { λ d h. Told (T.Tape.written d.tape) d.lost d.lines.items h };
 
     // The call of the next event that is one. At the end a partial event counts as a wrong number of records.
     fn next(&mut self) -> Option<Call> {

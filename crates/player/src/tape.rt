@@ -1,4 +1,4 @@
-ghost use Rattle.std.specs.Prelude.{◌≤◌, length, IfSome};
+ghost use Rattle.std.specs.Prelude.{ℕ, ◌≤◌, List, ◌++◌, length, IfSome, OnSome};
 
 use recording::Pending;
 
@@ -7,9 +7,13 @@ pub const BLOCK_LENGTH: usize = 4096;
 
 // What a recording is read from, and its lines written to.
 pub trait Tape {
+    // What may have been written to it so far. A tape in memory says just one list; of a terminal nothing is known.
+    ghost written: { Self → List ℕ → Type 0 };
+
     // Writes lines out and then reads the next bytes into `block`: how many came, 0 at the end, none where either failed.
     fn exchange(&mut self, lines: &[u8], block: &mut [u8]) -> Option<usize>
-        ensures { IfSome result (λ n. n ≤ length block.old) };
+        ensures within { IfSome result (λ n. n ≤ length block.old) }
+        ensures out { OnSome result ((out : List ℕ) → written self.old out → written self.new (out ++ lines.now)) };
 }
 
 // Plays the events of a tape, and keeps the lines of a block until the next is read.

@@ -8,4 +8,4 @@ pub returns-else-is_err : goal.returns-else-is_err
 returns-else-is_err g c = λ h named t answers.
     let p = c.args.self.now in
     let ok : is_ok c.push_line.result ≡ true = search rules in
-    one_called p.lost (vec_items p.lines) (vec_items c.push_line.new.lines) h (event_of c.args._call c.args.outcome) (c.push_line.ensures ∙ cond-true _ _ _ ok) t
+    one_called (g.T.Tape.written p.tape) p.lost (vec_items p.lines) (vec_items c.push_line.new.lines) h (event_of c.args._call c.args.outcome) (c.push_line.ensures ∙ cond-true _ _ _ ok) t

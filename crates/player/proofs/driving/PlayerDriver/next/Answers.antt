@@ -12,7 +12,7 @@ returns-then-not-refill g c = λ h t. c.finish.ensures h (c.refill.ensures h (c.
 
 pub loop-preserved : goal.loop-preserved
 loop-preserved g c = λ h t.
-    let Says : Player g.row.T.Denot → Type 0 = λ p. Told p.lost (vec_items p.lines) h in
+    let Says : Player g.row.T.Denot → Type 0 = λ p. Told (g.T.Tape.written p.tape) p.lost (vec_items p.lines) h in
     let k = c.next_event.ensures h (c.loop.invariant h t) in
     elim c.match-next_event.branch [
       | in-Some+in-Err w ↦ subst Says (sym w.self-is) (w.refuse.ensures h k)

@@ -8,4 +8,4 @@ pub returns-else-is_err : goal.returns-else-is_err
 returns-else-is_err g c = λ h t.
     let p = c.args.self.now in
     let ok : is_ok c.push_refusal.result ≡ true = search rules in
-    one_uncalled p.lost (vec_items p.lines) (vec_items c.push_refusal.new.lines) h (number_of c.args.refusal) (c.push_refusal.ensures ∙ cond-true _ _ _ ok) t
+    one_uncalled (g.T.Tape.written p.tape) p.lost (vec_items p.lines) (vec_items c.push_refusal.new.lines) h (number_of c.args.refusal) (c.push_refusal.ensures ∙ cond-true _ _ _ ok) t
