@@ -2,7 +2,6 @@
 #![tactic(auto)]
 
 use record::Reading;
-use refusals::Refusal;
 
 // A call on a panel.
 #[derive(Clone, Copy)]
@@ -17,11 +16,10 @@ pub enum Call {
     Key { channel: u8, open: bool },
 }
 
-// What came of a call.
+// What came of a call that was not refused.
 #[derive(Clone, Copy)]
 pub enum Outcome<'a> {
     Taken,
-    Refused(Refusal),
     // A gap that nobody answers.
     Silent,
     // A gap that a channel answers by these bytes.

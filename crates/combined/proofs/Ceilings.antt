@@ -1,13 +1,14 @@
 -- A ceiling over a rack.
-use Rattle.std.specs.Prelude.{◌≡◌, ℕ, zero, suc, ◌*◌, ◌≤◌, min, Bool, true, false, cond, not, ◌&&◌, ◌||◌, List, [], ◌∷◌, Some, None, Ok, Err, Option, Result, ◌≢◌, is_nan, nat_le, nat_lt, refl, Float}
+use Rattle.std.specs.Prelude.{◌≡◌, ℕ, ◌*◌, ◌≤◌, min, Bool, true, false, cond, not, ◌&&◌, ◌||◌, List, Some, None, Ok, Err, Option, Result, ◌≢◌, is_nan, nat_le, nat_lt, refl, Float}
 use Rattle.std.proofs.Common.{inl, inr, sym, ap, ◌∙◌, arith}
 use Rattle.std.specs.Float.Ieee.{lt}
 use Rattle.std.specs.Float.{float_is_finite}
 use Rattle.std.specs.Option.{option_map}
 use Rattle.std.proofs.lemmas.List.{map-set, length-map}
+use Rattle.std.proofs.lemmas.Option.{slice_get-map}
 use Rattle.std.proofs.lemmas.Bool.{cases_lt, lt-ltb, le-ltb}
 use Rattle.setpoint.specs.Load.{load_of}
-use Rattle.setpoint.specs.Refusals.{admitted_under, code_of}
+use Rattle.setpoint.specs.Refusals.{admitted_under}
 use Rattle.setpoint.specs.Value.{value_of, nought}
 use Rattle.setpoint.specs.declared.SetpointRefusal.{SetpointRefusal}
 use Rattle.setpoint.specs.declared.SetpointRefusal.TheVariants.{NotANumber, AboveCeiling, BelowZero}
@@ -21,41 +22,24 @@ use Rattle.rack.specs.Changes.{text_run?, written, answer_of}
 use Rattle.rack.specs.Meaning.{told, record_at, channel_of, answered, asked, written_at, records_after}
 
 -- an answer with its value changed
-abbrev pub on_ok : {X Y : Type 0} → (X → Y) → Result X ℕ → Result Y ℕ
+abbrev on_ok : {X Y : Type 0} → (X → Y) → Result X ℕ → Result Y ℕ
 on_ok f (Ok x) = Ok (f x)
 on_ok f (Err n) = Err n
-
-pub told_lowered : (p : ℕ) (records : List Record) → told (lowered_all p records) ≡ told records
-told_lowered p records = ap (λ n. min n 16) (length-map records (lowered p))
-
-record_lowered : (p : ℕ) (records : List Record) (n : ℕ) → record_at (lowered_all p records) n ≡ option_map (lowered p) (record_at records n)
-record_lowered p [] n = refl
-record_lowered p (r ∷ records) zero = refl
-record_lowered p (r ∷ records) (suc n) = record_lowered p records n
 
 mapped_cond : (b : Bool) (p : ℕ) (o : Option Record) → cond b (option_map (lowered p) o) None ≡ option_map (lowered p) (cond b o None)
 mapped_cond true p o = refl
 mapped_cond false p o = refl
 
-pub channel_lowered : (p : ℕ) (records : List Record) (c : ℕ) → channel_of (lowered_all p records) c ≡ option_map (lowered p) (channel_of records c)
-channel_lowered p records c = rw (told_lowered p records, record_lowered p records c) (mapped_cond (nat_lt c (told records) && nat_le c 14) p (record_at records c))
+channel_lowered : (p : ℕ) (records : List Record) (c : ℕ) → channel_of (lowered_all p records) c ≡ option_map (lowered p) (channel_of records c)
+channel_lowered p records c = rw (length-map records (lowered p), slice_get-map (lowered p) records c) (mapped_cond (nat_lt c (told records) && nat_le c 14) p (record_at records c))
 
 answered_mapped : {X : Type 0} (question : Record → Result X ℕ) (p : ℕ) (o : Option Record) → answered question (option_map (lowered p) o) ≡ answered (λ r. question (lowered p r)) o
 answered_mapped question p (Some r) = refl
 answered_mapped question p None = refl
 
 -- a question, asked of the rack below
-pub asked_below : {X : Type 0} (question : Record → Result X ℕ) (p : ℕ) (records : List Record) (c : ℕ) → answered (λ r. question (lowered p r)) (channel_of records c) ≡ answered question (channel_of (lowered_all p records) c)
+asked_below : {X : Type 0} (question : Record → Result X ℕ) (p : ℕ) (records : List Record) (c : ℕ) → answered (λ r. question (lowered p r)) (channel_of records c) ≡ answered question (channel_of (lowered_all p records) c)
 asked_below question p records c = sym (ap (answered question) (channel_lowered p records c) ∙ answered_mapped question p (channel_of records c))
-
-fields_on : (p : ℕ) (o : Option Record) → on_ok (lowered_fields p) (answered (λ r. Ok r.fields) o) ≡ answered (λ r. Ok (lowered_fields p r.fields)) o
-fields_on p (Some r) = refl
-fields_on p None = refl
-
-pub fields_lowered : (p : ℕ) (records : List Record) (c : ℕ) → on_ok (lowered_fields p) (asked (λ r. r.fields) records c) ≡ asked (λ r. r.fields) (lowered_all p records) c
-fields_lowered p records c = fields_on p (channel_of records c) ∙ asked_below (λ r. Ok r.fields) p records c
-
--- WRITES
 
 on_cond : (b : Bool) (p : ℕ) (r : Record) (n : ℕ) → cond b (Ok (lowered p r)) (Err n) ≡ on_ok (lowered p) (cond b (Ok r) (Err n))
 on_cond true p r n = refl
@@ -79,11 +63,11 @@ passes (Setpoint x) p r h = absurd (h x refl)
 
 -- what a smaller ceiling admits, a larger one does
 admits_by : (n l f : Bool) (a b load value : ℕ) → a ≤ b → ◌≡◌ {A = Result ℕ SetpointRefusal} (Ok load) (cond n (Err NotANumber) (cond l (Err BelowZero) (cond (not f || nat_lt a value) (Err AboveCeiling) (Ok value)))) → cond n (Err NotANumber) (cond l (Err BelowZero) (cond (not f || nat_lt b value) (Err AboveCeiling) (Ok value))) ≡ Ok load
-admits_by true l f a b load value h e = let z : ◌≡◌ {A = ℕ} 0 1 = cc in absurd (omega arith)
-admits_by false true f a b load value h e = let z : ◌≡◌ {A = ℕ} 0 1 = cc in absurd (omega arith)
-admits_by false false false a b load value h e = let z : ◌≡◌ {A = ℕ} 0 1 = cc in absurd (omega arith)
+admits_by true l f a b load value h e = cc
+admits_by false true f a b load value h e = cc
+admits_by false false false a b load value h e = cc
 admits_by false false true a b load value h e = elim (cases_lt a value) [
-  | inl k ↦ let z : ◌≡◌ {A = ℕ} 0 1 = let q = rw (lt-ltb a value k) at e in cc in absurd (omega arith)
+  | inl k ↦ let q = rw (lt-ltb a value k) at e in cc
   | inr k ↦ rw (le-ltb b value (omega arith)) (sym (rw (le-ltb a value k) at e))
 ]
 
@@ -125,14 +109,7 @@ passed_plain p records c change h = passed p records c change (λ r _. passes ch
 -- the fields that a channel was asked for are those of its record
 asked_some : (o : Option Record) (p : ℕ) (f : Fields) → Ok f ≡ answered (λ r. Ok (lowered_fields p r.fields)) o → (r : Record) → o ≡ Some r → f ≡ lowered_fields p r.fields
 asked_some (Some x) p f e r q = let same : x ≡ r = cc in let k : f ≡ lowered_fields p x.fields = cc in k ∙ ap (λ (y : Record). lowered_fields p y.fields) same
-asked_some None p f e r q = let z : ◌≡◌ {A = ℕ} 0 1 = cc in absurd (omega arith)
-
-refused_by_lem : (o : Option Record) (p : ℕ) (f : Fields) (x : ℕ) (e : SetpointRefusal) → Ok f ≡ answered (λ r. Ok (lowered_fields p r.fields)) o → Err e ≡ admitted_under f.ceiling (value_of x) → answered (written (Setpoint x)) (option_map (lowered p) o) ≡ Err (code_of e)
-refused_by_lem (Some r) p f x e found h =
-    let k : f ≡ lowered_fields p r.fields = cc in
-    let a : admitted_under (min p r.fields.ceiling) (value_of x) ≡ Err e = sym (h ∙ ap (λ (y : Fields). admitted_under y.ceiling (value_of x)) k) in
-    rw a refl
-refused_by_lem None p f x e found h = let z : ◌≡◌ {A = ℕ} 0 1 = cc in absurd (omega arith)
+asked_some None p f e r q = cc
 
 module _ (p : ℕ) (records : List Record) (c : ℕ) (f : Fields) (found : Ok f ≡ asked (λ r. r.fields) (lowered_all p records) c) where
   there : Ok f ≡ answered (λ r. Ok (lowered_fields p r.fields)) (channel_of records c)
@@ -141,6 +118,3 @@ module _ (p : ℕ) (records : List Record) (c : ℕ) (f : Fields) (found : Ok f 
   pub passed_setpoint : (x load : ℕ) → Ok load ≡ admitted_under f.ceiling (value_of x) → Passed p records c (Setpoint x)
   passed_setpoint x load e = passed p records c (Setpoint x) (λ r q.
       setpoint_passes x p load r (e ∙ ap (λ (y : Fields). admitted_under y.ceiling (value_of x)) (asked_some (channel_of records c) p f there r q)))
-
-  pub refused_setpoint : (x : ℕ) (e : SetpointRefusal) → Err e ≡ admitted_under f.ceiling (value_of x) → Err (code_of e) ≡ answer_of (written_at (lowered_all p records) c (Setpoint x))
-  refused_setpoint x e h = sym (ap answer_of (ap (answered (written (Setpoint x))) (channel_lowered p records c) ∙ refused_by_lem (channel_of records c) p f x e there h))

@@ -35,13 +35,10 @@ impl<R: Rack> Rack for Ceiling<R> {
     }
 
     fn write(&mut self, channel: u8, change: Change<'_>) -> Result<(), RackRefusal> {
-        match change {
-            Change::Setpoint(pattern) => {
-                let fields = self.fields(channel)?;
-                setpoint::admitted(pattern, fields.ceiling)?;
-                self.below.write(channel, change)
-            }
-            _ => self.below.write(channel, change),
+        if let Change::Setpoint(pattern) = change {
+            let fields = self.fields(channel)?;
+            setpoint::admitted(pattern, fields.ceiling)?;
         }
+        self.below.write(channel, change)
     }
 }

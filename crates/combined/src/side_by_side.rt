@@ -1,18 +1,16 @@
-ghost use Rattle.std.specs.Prelude.{◌≡◌, ◌++◌};
-ghost use Rattle.combined.specs.Sides.{routed};
+ghost use Rattle.std.specs.Prelude.{◌≡◌, ◌++◌, None, IfOk, OnErr};
+ghost use Rattle.combined.specs.Sides.{routed, FoundAt};
+ghost use Rattle.rack.specs.Meaning.{told, channel_of};
 ghost use Rattle.rack.specs.Refusals.{numbered};
 ghost use Rattle.std.proofs.ByRecursion.{All-append};
 ghost use Rattle.record.specs.Lawful.{Lawful};
 
-use rack::{Change, Rack, RackRefusal};
+use rack::{Change, MOST_CHANNELS, Rack, RackRefusal};
 use record::{Fields, Reading};
 use refusals::Refusal;
 
-// The last channel that can be asked or written.
-const LAST_CHANNEL: u8 = 14;
-
-// The number of records that is told for all above 15.
-const MANY: u8 = 16;
+// The number of records that is told for all above the most channels.
+const MANY: u8 = MOST_CHANNELS + 1;
 
 // Two racks side by side, whatever each is made of: the left one's channels first.
 #[derive(Drop)]
@@ -28,19 +26,25 @@ pub enum Side {
     Right(u8),
 }
 
-// Which rack a channel is of, and its number there, where the left one tells `left` records.
-fn route(left: u8, channel: u8) -> Result<Side, RackRefusal>
-    ensures { numbered result ≡ routed left channel }
-{
-    if channel > LAST_CHANNEL {
-        Err(RackRefusal::Call(Refusal::NoChannel))
-    } else if channel < left {
-        Ok(Side::Left(channel))
-    } else {
-        Ok(Side::Right(channel - left))
+impl<L: Rack, R: Rack> SideBySide<L, R> {
+    // Which rack a channel is of, and its number there.
+    fn route(&self, channel: u8) -> Result<Side, RackRefusal>
+        ensures value { numbered result ≡ routed (told (L.Rack.records self.now.left)) channel }
+        ensures found { IfOk result (FoundAt (L.Rack.records self.now.left) (R.Rack.records self.now.right) channel) }
+        ensures absent { OnErr result (channel_of (L.Rack.records self.now.left ++ R.Rack.records self.now.right) channel ≡ None) }
+    {
+        let left = self.left.count();
+        if channel >= MOST_CHANNELS {
+            Err(Refusal::NoChannel.into())
+        } else if channel < left {
+            Ok(Side::Left(channel))
+        } else {
+            Ok(Side::Right(channel - left))
+        }
     }
 }
 
+// The five matches stay: a closure for each side would name each method twice too, and no `dyn` may be handed out.
 impl<L: Rack, R: Rack> Rack for SideBySide<L, R> {
     ghost records = { λ s. L.Rack.records s.left ++ R.Rack.records s.right };
 
@@ -51,28 +55,28 @@ impl<L: Rack, R: Rack> Rack for SideBySide<L, R> {
     }
 
     fn fields(&self, channel: u8) -> Result<Fields, RackRefusal> {
-        match route(self.left.count(), channel)? {
+        match self.route(channel)? {
             Side::Left(channel) => self.left.fields(channel),
             Side::Right(channel) => self.right.fields(channel),
         }
     }
 
     fn reading(&self, channel: u8) -> Result<Reading, RackRefusal> {
-        match route(self.left.count(), channel)? {
+        match self.route(channel)? {
             Side::Left(channel) => self.left.reading(channel),
             Side::Right(channel) => self.right.reading(channel),
         }
     }
 
     fn text_byte(&self, channel: u8, place: u8) -> Result<u8, RackRefusal> {
-        match route(self.left.count(), channel)? {
+        match self.route(channel)? {
             Side::Left(channel) => self.left.text_byte(channel, place),
             Side::Right(channel) => self.right.text_byte(channel, place),
         }
     }
 
     fn write(&mut self, channel: u8, change: Change<'_>) -> Result<(), RackRefusal> {
-        match route(self.left.count(), channel)? {
+        match self.route(channel)? {
             Side::Left(channel) => self.left.write(channel, change),
             Side::Right(channel) => self.right.write(channel, change),
         }

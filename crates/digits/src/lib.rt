@@ -1,33 +1,73 @@
-// Bytes and letters as they are printed.
+// Bytes, letters, masters and widths of addresses as they are printed.
 #![tactic(auto)]
 
+ghost use Rattle.std.specs.Prelude.{Some};
+ghost use Rattle.std.specs.Str.{encode_utf8_all};
+ghost use Rattle.digits.specs.Printed.{spaced_hex, master_words, width_words};
+
+use frame::{Address, Master};
 use std::fmt;
 
-// Bytes as they are printed: two hexadecimal digits each, with a space between.
-#[derive(Drop)]
+// Bytes, printed as two hexadecimal digits each, with a space between.
+#[derive(Clone, Copy)]
 pub struct Hex<'a>(pub &'a [u8]);
 
 impl fmt::Display for Hex<'_> {
+    ghost output = { λ hex. Some (spaced_hex hex.0.now) };
+
     fn fmt<W: fmt::Write>(&self, f: &mut fmt::Formatter<W>) -> fmt::Result {
-        for (i, byte) in self.0.iter().enumerate() {
-            if i > 0 {
-                f.write_str(" ")?;
-            }
-            write!(f, "{byte:02X}")?;
+        let Some((first, rest)) = self.0.split_first() else {
+            return Ok(());
+        };
+        write!(f, "{}", hexdigits::Hex(&[*first]))?;
+        for byte in rest {
+            write!(f, " {}", hexdigits::Hex(&[*byte]))?;
         }
         Ok(())
     }
 }
 
-// Letters of unpacked text.
-#[derive(Drop)]
+// Letters of unpacked text, printed as one character each.
+#[derive(Clone, Copy)]
 pub struct Letters<'a>(pub &'a [u8]);
 
 impl fmt::Display for Letters<'_> {
+    ghost output = { λ letters. Some (encode_utf8_all letters.0.now) };
+
     fn fmt<W: fmt::Write>(&self, f: &mut fmt::Formatter<W>) -> fmt::Result {
         for letter in self.0 {
             f.write_char(char::from(*letter))?;
         }
         Ok(())
+    }
+}
+
+// A master, printed as a word.
+#[derive(Clone, Copy)]
+pub struct MasterName(pub Master);
+
+impl fmt::Display for MasterName {
+    ghost output = { λ name. Some (master_words name.0) };
+
+    fn fmt<W: fmt::Write>(&self, f: &mut fmt::Formatter<W>) -> fmt::Result {
+        match self.0 {
+            Master::Secondary => f.write_str("secondary"),
+            Master::Primary => f.write_str("primary"),
+        }
+    }
+}
+
+// The width of an address, printed as a word.
+#[derive(Clone, Copy)]
+pub struct Width<'a>(pub Address<'a>);
+
+impl fmt::Display for Width<'_> {
+    ghost output = { λ width. Some (width_words width.0) };
+
+    fn fmt<W: fmt::Write>(&self, f: &mut fmt::Formatter<W>) -> fmt::Result {
+        match self.0 {
+            Address::Short(_) => f.write_str("short"),
+            Address::Long(_) => f.write_str("long"),
+        }
     }
 }

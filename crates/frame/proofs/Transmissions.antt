@@ -1,5 +1,5 @@
 -- The transmission relation, the reading of bytes and the making of bytes are one.
-use Rattle.std.proofs.Common.{◌≡◌, ℕ, zero, suc, ◌+◌, ◌<◌, ◌≤◌, true, false, ◌&&◌, eqb, leb, ◌⊎◌, List, [], ◌∷◌, ◌++◌, length, drop, replicate, Ok, Err, Result, sym, refl, ap, ◌∙◌, subst, inl, inr, arith, length-append}
+use Rattle.std.proofs.Common.{◌≡◌, ℕ, zero, suc, ◌+◌, ◌<◌, ◌≤◌, true, false, ◌&&◌, eqb, leb, ◌⊎◌, List, [], ◌∷◌, ◌++◌, length, drop, replicate, Ok, Err, Result, sym, refl, ap, ◌∙◌, subst, inl, inr, add_comm, add-one, arith, length-append}
 use lib.Bits.{bit_xor, xor_self, xor_assoc, xor_zero_l, xor_zero_r}
 use Rattle.std.proofs.lemmas.Bool.{and_parts, and_from, eqb-true, eq-eqb, leb-true, le-leb, cases_Bool, cond-true}
 use Rattle.std.proofs.lemmas.List.{drop_at, length-replicate}
@@ -16,7 +16,7 @@ use Rattle.frame.proofs.Frames.{request_read, read_request_lem, data_limit}
 -- the preambles before bytes that begin with none
 preambles_led : (n : ℕ) (span : List ℕ) → preambles_of span ≡ 0 → preambles_of (replicate n 255 ++ span) ≡ n
 preambles_led zero span e = e
-preambles_led (suc n) span e = ap suc (preambles_led n span e)
+preambles_led (suc n) span e = omega (arith, preambles_led n span e)
 
 span_led : (n : ℕ) (span : List ℕ) → drop n (replicate n 255 ++ span) ≡ span
 span_led n span = drop_at (replicate n 255) span n (length-replicate n 255)
@@ -25,7 +25,7 @@ span_led n span = drop_at (replicate n 255) span n (length-replicate n 255)
 pub led : (bytes : List ℕ) → bytes ≡ replicate (preambles_of bytes) 255 ++ span_of bytes
 led [] = refl
 led (b ∷ bytes) = elim (cases_Bool (eqb b 255)) [
-  | inl t ↦ let e = eqb-true b 255 t in rw (e) (ap (λ r. 255 ∷ r) (led bytes))
+  | inl t ↦ let e = eqb-true b 255 t in rw (e, add_comm 1, add-one) (ap (λ r. 255 ∷ r) (led bytes))
   | inr f ↦ rw f refl
 ]
 

@@ -1,12 +1,12 @@
 -- A transmission: preambles and then a frame.
-use Rattle.std.specs.Prelude.{◌≡◌, ℕ, suc, ◌≤◌, cond, ◌&&◌, List, [], ◌∷◌, ◌++◌, drop, replicate, Ok, Err, Result, ◌==◌, nat_le}
+use Rattle.std.specs.Prelude.{◌≡◌, ℕ, ◌≤◌, cond, ◌&&◌, List, ◌++◌, drop, replicate, Ok, Err, Result, ◌==◌, nat_le}
+use Rattle.std.specs.List.{prefix_len}
 use Rattle.frame.specs.Check.{check_of}
 use Rattle.frame.specs.Frames.{Parts, RequestFrame, ReplyFrame, request_frame}
 
 -- how many preambles, bytes FF, stand before the start: the start is the first byte that is not FF
 abbrev pub preambles_of : List ℕ → ℕ
-preambles_of [] = 0
-preambles_of (b ∷ bytes) = cond (b == 0xff) (suc (preambles_of bytes)) 0
+preambles_of = prefix_len (λ b. b == 0xff)
 
 -- the bytes from the start on
 abbrev pub span_of : List ℕ → List ℕ

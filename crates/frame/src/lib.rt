@@ -5,7 +5,7 @@
 #![tactic(auto)]
 
 ghost use Rattle.std.specs.Prelude.{◌≡◌, ◌/◌, slice_index};
-ghost use Rattle.frame.specs.Views.{master_bit, address_bytes};
+ghost use Rattle.frame.specs.Views.{master_bit, address_bytes, MadeOf};
 
 mod checks;
 mod maker;
@@ -23,7 +23,7 @@ pub enum Master {
 }
 
 impl Master {
-    // By bit 7 of the first address byte.
+    // By bit 7 of the first address byte. No `From`: a byte is more than its bit 7.
     pub fn of(first: u8) -> Master
         ensures { master_bit result ≡ first / 128 }
     {
@@ -36,6 +36,7 @@ impl Master {
 }
 
 // The address bytes of a frame: one byte with a polling address, or five with manufacturer, device type and identification number.
+// That they are as many is a clause of the readers and not of this type: whoever judges an address takes any bytes.
 #[derive(Clone, Copy)]
 pub enum Address<'a> {
     Short(&'a [u8]),
@@ -47,8 +48,7 @@ impl<'a> Address<'a> {
         ensures { result.now ≡ address_bytes self.entry }
     {
         match self {
-            Address::Short(bytes) => bytes,
-            Address::Long(bytes) => bytes,
+            Address::Short(bytes) | Address::Long(bytes) => bytes,
         }
     }
 
@@ -63,6 +63,18 @@ impl<'a> Address<'a> {
     }
 }
 
+impl<'a> From<&'a [u8]> for Address<'a> {
+    ghost from_gives = { λ bytes address. MadeOf bytes.now address };
+
+    // Five bytes are a long address, all others a short one, in form if it is one byte.
+    fn from(bytes: &'a [u8]) -> Address<'a> {
+        match bytes {
+            [_, _, _, _, _] => Address::Long(bytes),
+            _ => Address::Short(bytes),
+        }
+    }
+}
+
 // The parts of a frame.
 #[derive(Clone, Copy)]
 pub struct Frame<'a> {
@@ -72,7 +84,7 @@ pub struct Frame<'a> {
     pub check: u8,
 }
 
-// The parts of a request's transmission that its master chooses.
+// The parts of a transmission that its sender chooses.
 #[derive(Clone, Copy)]
 pub struct Transmission<'a> {
     pub preambles: usize,
@@ -81,21 +93,34 @@ pub struct Transmission<'a> {
     pub data: &'a [u8],
 }
 
-// The start byte of a request with a short address, and with a long one.
+// The start bytes of a kind of frame.
+#[derive(Clone, Copy)]
+struct StartBytes {
+    // With a short address.
+    short: u8,
+    // With a long one.
+    long: u8,
+}
+
 const SHORT_REQUEST: u8 = 0x02;
 
 const LONG_REQUEST: u8 = 0x82;
 
-// The same of a reply.
-const SHORT_REPLY: u8 = 0x06;
+const REQUEST: StartBytes = StartBytes {
+    short: SHORT_REQUEST,
+    long: LONG_REQUEST,
+};
 
-const LONG_REPLY: u8 = 0x86;
+const REPLY: StartBytes = StartBytes {
+    short: 0x06,
+    long: 0x86,
+};
 
 // Every preamble is this byte, and no start byte is.
-const PREAMBLE: u8 = 0xFF;
+pub const PREAMBLE: u8 = 0xFF;
 
 // The preambles without which no transmission is heard, and the most that are sent.
-const LEAST_PREAMBLES: usize = 2;
+pub const LEAST_PREAMBLES: usize = 2;
 
 const MOST_PREAMBLES: usize = 20;
 
@@ -117,10 +142,7 @@ mod tests {
         assert_eq!(rt; request.command, 16);
         assert_eq!(rt; request.data.len(), 0);
         let mut made = [0xA5; 8];
-        assert_eq!(rt;
-            make_request(2, request.address.bytes(), 16, request.data, &mut made),
-            Ok(7)
-        );
+        assert_eq!(rt; make_request(request, &mut made), Ok(7));
         assert_eq!(rt; made, [0xFF, 0xFF, 0x02, 0x81, 0x10, 0x00, 0x93, 0xA5]);
         Ok(())
     }
@@ -131,18 +153,23 @@ mod tests {
         assert!(rt; read_request(&[0xFF, 0x02, 0x81, 0x10, 0x00, 0x93]).is_err());
         assert!(rt; read_request(&[0xFF, 0xFF, 0x02, 0x81, 0x10, 0x00, 0x93, 0x00]).is_err());
         let mut made = [0xA5; 6];
-        assert_eq!(rt;
-            make_request(21, &[0x81], 16, &[], &mut made),
-            Err(Refusal::OutOfForm)
-        );
-        assert_eq!(rt;
-            make_request(2, &[0x81, 0], 16, &[], &mut made),
-            Err(Refusal::OutOfForm)
-        );
-        assert_eq!(rt;
-            make_request(2, &[0x81], 16, &[], &mut made),
-            Err(Refusal::ShortBuffer)
-        );
+        let request = Transmission {
+            preambles: 2,
+            address: Address::from([0x81].as_slice()),
+            command: 16,
+            data: &[],
+        };
+        let led = Transmission {
+            preambles: 21,
+            ..request
+        };
+        assert_eq!(rt; make_request(led, &mut made), Err(Refusal::OutOfForm));
+        let wide = Transmission {
+            address: Address::from([0x81, 0].as_slice()),
+            ..request
+        };
+        assert_eq!(rt; make_request(wide, &mut made), Err(Refusal::OutOfForm));
+        assert_eq!(rt; make_request(request, &mut made), Err(Refusal::ShortBuffer));
         assert_eq!(rt; made, [0xA5; 6]);
     }
 }

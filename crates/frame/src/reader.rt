@@ -69,10 +69,5 @@ pub fn count_preambles(bytes: &[u8]) -> usize
     ensures value { result ≡ preambles_of bytes.now }
     ensures within { result ≤ length bytes.now }
 {
-    for (i, byte) in bytes.iter().enumerate() {
-        if *byte != PREAMBLE {
-            return i;
-        }
-    }
-    bytes.len()
+    bytes.iter().take_while(|byte| **byte == PREAMBLE).count()
 }

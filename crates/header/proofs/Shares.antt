@@ -1,8 +1,13 @@
 -- The shares of lawful records, and their sum channel by channel.
-use Rattle.std.proofs.Common.{◌≡◌, ℕ, zero, suc, ◌+◌, ◌^◌, ◌≤◌, leb, List, [], ◌∷◌, length, take, Some, None, Ok, Option, sym, refl, ap, ◌∙◌, add-one, arith}
+use Rattle.std.proofs.Common.{◌≡◌, ℕ, suc, ◌+◌, ◌^◌, ◌<◌, ◌≤◌, leb, List, [], ◌∷◌, length, Some, None, Ok, Err, Option, Result, sym, refl, ap, ◌∙◌, add-zero, zero-add, arith}
+use Rattle.std.specs.List.{sum_by, range_with_len}
+use Rattle.std.specs.Option.{MatchOption}
+use Rattle.std.specs.Result.{MatchResult}
 use Rattle.std.proofs.lemmas.Nat.{mul-le}
-use Rattle.std.proofs.lemmas.List.{take_all}
+use Rattle.std.proofs.lemmas.List.Sums.{sum_by-cons}
 use Rattle.std.proofs.lemmas.Bool.{and_parts, leb-true, le-leb, lt-ltb, cond-true}
+use Rattle.rack.specs.Refusals.{numbered}
+use Rattle.rack.specs.declared.refusal.RackRefusal.{RackRefusal}
 use Rattle.setpoint.specs.Load.{load_of, fitting_load}
 use Rattle.setpoint.specs.Share.{share_of}
 use Rattle.setpoint.specs.Value.{value_of}
@@ -22,21 +27,12 @@ lawful_load r h =
     let l = h.fields.setpoint.1 in
     sym (cond-true _ _ _ (laws.loaded l) ∙ cond-true _ _ _ (lt-ltb (load_of (value_of p)) (2 ^ 32) (omega (arith, laws.bounded l))))
 
-module _ (r : Record) (h : Lawful r) (f : Fields) (found : Ok f ≡ answered (λ x. Ok x.fields) (Some r)) where
-  same : f ≡ r.fields
-  same = cc
+-- a share computed of the load that fields have
+abbrev pub Drawn : ℕ → Fields → Type 0
+Drawn n f = MatchOption (fitting_load (value_of f.setpoint)) (n ≡ 0) (λ load. n ≡ share_of load f.full_scale)
 
-  share_found : (load : ℕ) → Some load ≡ fitting_load (value_of f.setpoint) → share_of load f.full_scale ≡ fields_share r.fields
-  share_found load e =
-      let k : Some load ≡ fitting_load (value_of r.fields.setpoint) = e ∙ ap (λ (x : Fields). fitting_load (value_of x.setpoint)) same in
-      let n : load ≡ load_of (value_of r.fields.setpoint) = let l = lawful_load r h in cc in
-      rw (n, same) refl
-
-  share_none : None ≡ fitting_load (value_of f.setpoint) → ⊥
-  share_none e =
-      let k : None ≡ fitting_load (value_of r.fields.setpoint) = e ∙ ap (λ (x : Fields). fitting_load (value_of x.setpoint)) same in
-      let z : ◌≡◌ {A = ℕ} 0 1 = let l = lawful_load r h in cc in
-      omega arith
+drawn_is : (r : Record) → Lawful r → (n : ℕ) → Drawn n r.fields → n ≡ fields_share r.fields
+drawn_is r h n d = rw (sym (lawful_load r h)) at d
 
 share_bound : (r : Record) → Lawful r → fields_share r.fields ≤ 102400000000
 share_bound r h =
@@ -45,26 +41,26 @@ share_bound r h =
     let p = and_parts (leb 1 scale) (leb scale 1000000) h.fields.full_scale in
     mul-le load scale 102400 1000000 ((lawful_laws r.fields.setpoint).bounded h.fields.setpoint.1) (leb-true scale 1000000 p.1)
 
--- the share that was computed of the fields that a channel told
-pub share_of_lem : (o : Option Record) → ((r : Record) → o ≡ Some r → Lawful r) → (f : Fields) → Ok f ≡ answered (λ x. Ok x.fields) o → (load : ℕ) → Some load ≡ fitting_load (value_of f.setpoint) → (share_of load f.full_scale ≡ option_share o) × (option_share o ≤ 102400000000)
-share_of_lem (Some r) h f found load e = (share_found r (h r refl) f found load e, share_bound r (h r refl))
-share_of_lem None h f found load e = let z : ◌≡◌ {A = ℕ} 0 1 = cc in absurd (omega arith)
+-- the share computed of the fields that a channel told
+pub told_share : (o : Option Record) → ((r : Record) → o ≡ Some r → Lawful r) → (a : Result Fields RackRefusal) → numbered a ≡ answered (λ x. Ok x.fields) o → (n : ℕ) → MatchResult a (Drawn n) (λ _. n ≡ 0)
+    → (n ≡ option_share o) × (n ≤ 102400000000)
+told_share (Some r) h (Ok f) e n d =
+    let same : f ≡ r.fields = cc in
+    let s = drawn_is r (h r refl) n (rw same at d) in
+    (s, omega (arith, s, share_bound r (h r refl)))
+told_share (Some r) h (Err x) e n d = cc
+told_share None h (Ok f) e n d = cc
+told_share None h (Err x) e n d = (d, omega arith)
 
-pub never_none : (o : Option Record) → ((r : Record) → o ≡ Some r → Lawful r) → (f : Fields) → Ok f ≡ answered (λ x. Ok x.fields) o → None ≡ fitting_load (value_of f.setpoint) → ⊥
-never_none (Some r) h f found e = share_none r (h r refl) f found e
-never_none None h f found e = let z : ◌≡◌ {A = ℕ} 0 1 = cc in omega arith
+-- the sum over the places of a list
+sum_of_places : (f : ℕ → ℕ) (records : List Record) (a : ℕ) → ((k : ℕ) → k < length records → f (a + k) ≡ option_share (record_at records k)) → sum_by f (range_with_len a (length records)) ≡ total_share records
+sum_of_places f [] a h = refl
+sum_of_places f (r ∷ records) a h =
+    let more = sum_of_places f records (a + 1) (λ k l. ap f (omega arith) ∙ h (suc k) (omega arith)) in
+    omega (arith, sum_by-cons f a (range_with_len (a + 1) (length records)), ap f (add-zero a), h 0 (omega arith), more)
 
--- one channel more
-total_more : (records : List Record) (i : ℕ) → total_share (take (suc i) records) ≡ total_share (take i records) + option_share (record_at records i)
-total_more [] zero = refl
-total_more [] (suc i) = refl
-total_more (r ∷ records) zero = omega arith
-total_more (r ∷ records) (suc i) = let k = total_more records i in omega arith
-
-pub total_next : (records : List Record) (i : ℕ) → i ≤ 14 → total_share (take (i + 1) records) ≡ total_share (take i records) + share_at records i
-total_next records i h = ap (λ n. total_share (take n records)) (add-one i) ∙ (total_more records i ∙ ap (λ (o : Option Record). total_share (take i records) + option_share o) (sym (channel_plain records i h)))
-
-pub total_all : (records : List Record) (i : ℕ) → i ≡ told records → i ≤ 15 → Ok (total_share (take i records)) ≡ rack_share records
-total_all records i h few =
-    let l : length records ≡ i = omega arith in
-    rw (take_all i records (omega arith), le-leb (length records) 15 (omega arith)) refl
+pub total_is : (records : List Record) (n : ℕ) → n ≡ told records → n ≤ 15 → Ok (sum_by (share_at records) (range_with_len 0 n)) ≡ rack_share records
+total_is records n t few =
+    let l : n ≡ length records = omega arith in
+    let sums = sum_of_places (share_at records) records 0 (λ k i. ap (share_at records) (zero-add k) ∙ ap option_share (channel_plain records k (omega arith))) in
+    rw (l, sums, le-leb (length records) 15 (omega arith)) refl

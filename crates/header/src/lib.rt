@@ -5,14 +5,11 @@ ghost use Rattle.std.specs.Prelude.{◌≡◌, ◌≤◌};
 ghost use Rattle.refusals.specs.Refusals.{numbered};
 ghost use Rattle.header.specs.Shares.{share_at, rack_share, capacity_of, fits?};
 
-use rack::Rack;
+use rack::{MOST_CHANNELS, Rack};
 use refusals::Refusal;
 
 // The load of 100 percent: a supply is weighed on the scale of the loads.
 const FULL_LOAD: u64 = 102_400;
-
-// The most channels of a rack whose shares are summed.
-const MOST_CHANNELS: u8 = 15;
 
 // The sum of the shares of a rack's channels, by their setpoints: 104 where the rack tells more than 15 records.
 pub fn total_share<R: Rack>(rack: &R) -> Result<u64, Refusal>
@@ -22,11 +19,7 @@ pub fn total_share<R: Rack>(rack: &R) -> Result<u64, Refusal>
     if count > MOST_CHANNELS {
         return Err(Refusal::NumberOfRecords);
     }
-    let mut total = 0;
-    for channel in 0..count {
-        total += channel_share(rack, channel);
-    }
-    Ok(total)
+    Ok((0..count).map(|channel| channel_share(rack, channel)).sum())
 }
 
 // The share of one channel, 0 where there is none.
@@ -34,13 +27,9 @@ pub fn channel_share<R: Rack>(rack: &R, channel: u8) -> u64
     ensures value { result ≡ share_at (R.Rack.records rack.now) channel }
     ensures bound { result ≤ 102400000000 }
 {
-    match rack.fields(channel) {
-        Ok(fields) => match setpoint::load(fields.setpoint) {
-            Some(load) => setpoint::share(load, fields.full_scale),
-            None => 0,
-        },
-        Err(_) => 0,
-    }
+    rack.fields(channel).map_or(0, |fields| {
+        setpoint::load(fields.setpoint).map_or(0, |load| setpoint::share(load, fields.full_scale))
+    })
 }
 
 // The most that shares may sum up to under a supply in mL/min.

@@ -1,8 +1,14 @@
 -- The reading of hexadecimal text, one byte after another.
-use Rattle.std.proofs.Common.{◌≡◌, ℕ, ◌+◌, ◌*◌, ◌/◌, ◌%◌, ◌<◌, ◌≤◌, List, [], ◌∷◌, ◌++◌, length, get_or, drop, Some, None, Option, sym, refl, ap, ◌∙◌, append_assoc, arith}
-use Rattle.std.proofs.lemmas.List.{drop_more, at_drop_all, append-nil}
+use Rattle.std.proofs.Common.{◌≡◌, ℕ, zero, suc, ◌+◌, ◌*◌, ◌/◌, ◌%◌, ◌<◌, ◌≤◌, List, [], ◌∷◌, ◌++◌, length, get_or, take, drop, Some, None, Option, Err, Result, sym, refl, ap, ◌∙◌, append_assoc, add-one, arith}
+use lib.Utf8.{encode}
+use Rattle.std.specs.Simd.{first_chunks}
+use Rattle.std.proofs.lemmas.Str.Ascii.{encode_ascii}
+use Rattle.std.proofs.lemmas.List.{at_drop_more, at_drop_all, append-nil}
 use Rattle.std.specs.List.{AllByRecursion}
 use Rattle.std.proofs.lemmas.Bool.Decides.{nat_tests}
+use Rattle.std.specs.Option.{ok_or}
+use Rattle.hexdigits.specs.declared.HexFault.{HexFault}
+use Rattle.hexdigits.specs.declared.HexFault.TheVariants.{NotHex}
 use Rattle.hexdigits.specs.Hex.{digit_of, hex_of, value_of, byte_of, before, bytes_of}
 
 digit_back : (n : ℕ) → n < 16 → value_of (digit_of n) ≡ Some n
@@ -12,10 +18,6 @@ digit_back n h = grind (arith, nat_tests)
 abbrev pub after : List ℕ → Option (List ℕ) → Option (List ℕ)
 after front (Some bytes) = Some (front ++ bytes)
 after front None = None
-
-pub after_more : (front : List ℕ) (b : ℕ) (rest : Option (List ℕ)) → after front (before (Some b) rest) ≡ after (front ++ b ∷ []) rest
-after_more front b (Some bytes) = ap Some (sym (append_assoc front (b ∷ []) bytes))
-after_more front b None = refl
 
 before_none : (b : Option ℕ) → before b None ≡ None
 before_none (Some b) = refl
@@ -27,28 +29,32 @@ odd [] h = absurd (h refl)
 odd (a ∷ []) h = refl
 odd (a ∷ b ∷ text) h = rw (odd text (λ e. h (omega arith))) (before_none (byte_of a b))
 
--- what is left, with its first two digits apart
-pub pair_at : (text : List ℕ) (i : ℕ) → i * 2 + 1 < length text → bytes_of (drop (i * 2) text) ≡ before (byte_of (get_or text (i * 2) 0) (get_or text (i * 2 + 1) 0)) (bytes_of (drop ((i + 1) * 2) text))
-pair_at text i h =
-    let n : i * 2 + 1 + 1 ≡ (i + 1) * 2 = omega arith in
-    rw (drop_more text (i * 2) 0 (omega arith), drop_more text (i * 2 + 1) 0 h, n) refl
+-- the bytes of pairs of digits
+abbrev pub in_pairs : List (List ℕ) → Option (List ℕ)
+in_pairs [] = Some []
+in_pairs (p ∷ pairs) = before (byte_of (get_or p 0 0) (get_or p 1 0)) (in_pairs pairs)
 
--- a loop that has read i bytes, `front`: at two that are no digits, at two more, and at the end
-module _ (text front : List ℕ) (i : ℕ) (inv : after front (bytes_of (drop (i * 2) text)) ≡ bytes_of text) where
+-- a text of an even length in its pairs
+pub pairs_read : (n : ℕ) (text : List ℕ) → length text ≡ n * 2 → in_pairs (first_chunks 2 n text) ≡ bytes_of text
+pairs_read zero [] h = refl
+pairs_read zero (a ∷ text) h = absurd (omega arith)
+pairs_read (suc n) [] h = absurd (omega arith)
+pairs_read (suc n) (a ∷ []) h = absurd (omega arith)
+pairs_read (suc n) (a ∷ b ∷ text) h = ap (before (byte_of a b)) (pairs_read n text (omega arith))
+
+-- a loop that has read the bytes `front` of pairs: at a pair that is no byte, at one more, and at the end
+module _ (pairs : List (List ℕ)) (front : List ℕ) (i : ℕ) (inv : after front (in_pairs (drop i pairs)) ≡ in_pairs pairs) where
   abbrev next : Option ℕ
-  next = byte_of (get_or text (i * 2) 0) (get_or text (i * 2 + 1) 0)
+  next = byte_of (get_or (get_or pairs i []) 0 0) (get_or (get_or pairs i []) 1 0)
 
   abbrev rest : Option (List ℕ)
-  rest = bytes_of (drop ((i + 1) * 2) text)
+  rest = in_pairs (drop (i + 1) pairs)
 
-  pub at_none : i * 2 + 1 < length text → next ≡ None → bytes_of text ≡ None
-  at_none h e = sym inv ∙ ap (after front) (pair_at text i h ∙ ap (λ b. before b rest) e)
+  pub at_none : i < length pairs → next ≡ None → in_pairs pairs ≡ None
+  at_none h e = sym inv ∙ ap (after front) (at_drop_more in_pairs pairs i [] h ∙ ap (λ b. before b rest) e)
 
-  pub at_byte : (b : ℕ) → i * 2 + 1 < length text → next ≡ Some b → after (front ++ b ∷ []) rest ≡ bytes_of text
-  at_byte b h e = sym (after_more front b rest) ∙ (ap (after front) (sym (pair_at text i h ∙ ap (λ x. before x rest) e)) ∙ inv)
-
-  pub at_end : length text ≤ i * 2 → bytes_of text ≡ Some front
-  at_end h = sym inv ∙ (ap (after front) (at_drop_all bytes_of text (i * 2) h) ∙ ap Some (append-nil front))
+  pub at_end : length pairs ≤ i → in_pairs pairs ≡ Some front
+  at_end h = sym inv ∙ (ap (after front) (at_drop_all in_pairs pairs i h) ∙ ap Some (append-nil front))
 
 -- what is written of bytes reads back to them
 pair_back : (b : ℕ) → b < 256 → byte_of (digit_of (b / 16)) (digit_of (b % 16)) ≡ Some b
@@ -60,3 +66,24 @@ pair_back b h =
 pub hex_back : (bytes : List ℕ) → AllByRecursion (λ b. b < 256) bytes → bytes_of (hex_of bytes) ≡ Some bytes
 hex_back [] h = refl
 hex_back (b ∷ bytes) h = rw (pair_back b h.0, hex_back bytes h.1) refl
+
+digit_ascii : (n : ℕ) → n < 16 → digit_of n < 128
+digit_ascii n h = grind (arith, nat_tests)
+
+-- the digits of one byte more
+taken : (i : ℕ) (bytes : List ℕ) → i < length bytes → hex_of (take (suc i) bytes) ≡ hex_of (take i bytes) ++ (digit_of (get_or bytes i 0 / 16) ∷ digit_of (get_or bytes i 0 % 16) ∷ [])
+taken i [] h = absurd (omega arith)
+taken zero (b ∷ bytes) h = refl
+taken (suc i) (b ∷ bytes) h = rw (taken i bytes (omega arith)) refl
+
+-- the same, of digits that were written as characters
+pub hex_more : (i : ℕ) (bytes : List ℕ) (c d : ℕ) → i < length bytes → get_or bytes i 0 < 256 → c ≡ digit_of (get_or bytes i 0 / 16) → d ≡ digit_of (get_or bytes i 0 % 16) → hex_of (take i bytes) ++ encode c ++ encode d ≡ hex_of (take (i + 1) bytes)
+hex_more i bytes c d h b e f =
+    let high = get_or bytes i 0 / 16 in
+    let low = get_or bytes i 0 % 16 in
+    rw (e, f, encode_ascii (digit_of high) (digit_ascii high (omega arith)), encode_ascii (digit_of low) (digit_ascii low (omega arith)), add-one, taken i bytes h) (append_assoc (hex_of (take i bytes)) (digit_of high ∷ []) (digit_of low ∷ []))
+
+-- an option without a value, told as a fault
+pub refused : (o : Option ℕ) (e : HexFault) → ◌≡◌ {A = Result ℕ HexFault} (Err e) (ok_or o NotHex) → (o ≡ None) × (e ≡ NotHex)
+refused (Some x) e h = absurd (cc)
+refused None e h = (refl, cc)

@@ -1,7 +1,7 @@
 // Bytes as capital hexadecimal text.
 #![tactic(auto)]
 
-ghost use Rattle.std.specs.Prelude.{◌≡◌, ◌<◌, ◌++◌, IfSome, is_ok, if◌then◌else◌, Some};
+ghost use Rattle.std.specs.Prelude.{◌≡◌, ◌<◌, IfSome, IfOk, Some, string_bytes};
 ghost use Rattle.hexdigits.specs.declared.HexFault.TheVariants.{Memory};
 ghost use Rattle.hexdigits.specs.Hex.{digit_of, hex_of, value_of, byte_of, bytes_of};
 ghost use Rattle.hexdigits.specs.Answers.{Reads};
@@ -37,12 +37,28 @@ impl<T: Drop> From<AllocFailed<T>> for HexFault {
     }
 }
 
+// Bytes, printed as two digits each.
+#[derive(Clone, Copy)]
+pub struct Hex<'a>(pub &'a [u8]);
+
+impl fmt::Display for Hex<'_> {
+    ghost output = { λ hex. Some (hex_of hex.0.now) };
+
+    fn fmt<W: fmt::Write>(&self, f: &mut fmt::Formatter<W>) -> fmt::Result {
+        for byte in self.0 {
+            f.write_char(digit(byte / 16))?;
+            f.write_char(digit(byte % 16))?;
+        }
+        Ok(())
+    }
+}
+
 // The digit of a number below 16.
-fn digit(n: u8) -> u8
+fn digit(n: u8) -> char
     requires { n < 16 }
     ensures { result ≡ digit_of n }
 {
-    if n < 10 { b'0' + n } else { b'A' + (n - 10) }
+    char::from(if n < 10 { b'0' + n } else { b'A' + (n - 10) })
 }
 
 // The number of a digit, if it is one.
@@ -58,38 +74,54 @@ fn value(c: u8) -> Option<u8>
 }
 
 // The byte of two digits, if they are.
-fn byte(high: u8, low: u8) -> Option<u8>
+pub fn byte(high: u8, low: u8) -> Option<u8>
     ensures { result ≡ byte_of high low }
 {
     Some(value(high)? * 16 + value(low)?)
 }
 
-// Appends the digits of `bytes` to `text`, or changes nothing where memory is short.
-pub fn push_hex(text: &mut Vec<u8>, bytes: &[u8]) -> Result<(), AllocError>
-    ensures items { text.new.items ≡ (if is_ok result then text.old.items ++ hex_of bytes.now else text.old.items) }
+// The digits of `bytes`, which read back to them.
+pub fn to_hex(heap: Global, bytes: &[u8]) -> Result<String, AllocError>
+    ensures text { IfOk result (λ text. string_bytes text ≡ hex_of bytes.now) }
     ensures back { bytes_of (hex_of bytes.now) ≡ Some bytes.now }
 {
-    text.reserve(bytes.len() * 2)?;
-    for byte in bytes {
-        text.push_reserved(digit(byte / 16));
-        text.push_reserved(digit(byte % 16));
-    }
-    Ok(())
+    format!(in heap; "{}", Hex(bytes))
 }
 
 // Reads the bytes of a hexadecimal text.
 pub fn parse_hex(heap: Global, text: &[u8]) -> Result<Vec<u8>, HexFault>
     ensures { Reads (bytes_of text.now) result }
 {
-    if text.len() % 2 != 0 {
+    let (pairs, rest) = text.as_chunks::<2>();
+    if !rest.is_empty() {
         return Err(HexFault::NotHex);
     }
     let mut bytes = Vec::new(heap);
-    for i in 0..text.len() / 2 {
-        let Some(byte) = byte(text[i * 2], text[i * 2 + 1]) else {
-            return Err(HexFault::NotHex);
-        };
-        bytes.push(byte)?;
+    for pair in pairs {
+        let [high, low] = *pair;
+        bytes.push(byte(high, low).ok_or(HexFault::NotHex)?)?;
     }
     Ok(bytes)
+}
+
+#[cfg(test)]
+mod tests {
+    use super::*;
+    use std::test::Fail;
+
+    #[test]
+    fn both_ways(rt: HostRuntime) -> Result<(), Fail> {
+        let text = to_hex(rt.alloc(), &[0x00, 0xA5, 0xFF])?;
+        assert_eq!(rt; text.as_str(), "00A5FF");
+        let bytes = parse_hex(rt.alloc(), text.as_str().as_bytes())?;
+        assert_eq!(rt; bytes.as_slice(), [0x00u8, 0xA5, 0xFF].as_slice());
+        Ok(())
+    }
+
+    #[test]
+    fn not_hex(rt: HostRuntime) {
+        assert!(rt; matches!(parse_hex(rt.alloc(), b"A5F"), Err(HexFault::NotHex)));
+        assert!(rt; matches!(parse_hex(rt.alloc(), b"a5"), Err(HexFault::NotHex)));
+        assert_eq!(rt; byte(b'4', b'G'), None);
+    }
 }

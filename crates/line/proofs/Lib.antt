@@ -1,4 +1,3 @@
-pub mod Tags
 pub mod Setpoints
 pub mod Lengths
 pub mod Responses

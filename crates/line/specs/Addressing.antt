@@ -1,5 +1,6 @@
 -- Whom a request means.
-use Rattle.std.specs.Prelude.{ℕ, ◌/◌, ◌%◌, Bool, true, false, cond, not, ◌&&◌, ◌||◌, List, [], ◌∷◌, length, take, ◌==◌, slice_index}
+use Rattle.std.specs.Prelude.{ℕ, ◌/◌, ◌%◌, Bool, true, false, cond, not, ◌&&◌, ◌||◌, List, length, take, ◌==◌, nat_eq, slice_index}
+use Rattle.std.specs.Cmp.Lexicographic.{pointwise}
 use Rattle.frame.specs.Frames.{Parts}
 use Rattle.record.specs.Bytes.{number24}
 use Rattle.record.specs.declared.Record.{Record}
@@ -26,10 +27,7 @@ address_means address polling device identification =
     (cond (length address == 5) (long_means address device identification || every_channel? address) false)
 
 abbrev pub equal? : List ℕ → List ℕ → Bool
-equal? [] [] = true
-equal? [] (y ∷ ys) = false
-equal? (x ∷ xs) [] = false
-equal? (x ∷ xs) (y ∷ ys) = x == y && equal? xs ys
+equal? = pointwise nat_eq
 
 -- a tag question means, of the addressed channels, only those with its tag; command 11 with another count is bare and means none
 abbrev pub tag_means : Asked → List ℕ → Bool

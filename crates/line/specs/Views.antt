@@ -1,8 +1,6 @@
 -- What the structs of the code say, with lists in the place of references.
-use Rattle.std.specs.Prelude.{ℕ, List, take}
 use Rattle.line.specs.Characters.{Reception}
 use Rattle.line.specs.Requests.{Asked, tag_question, text_write, number_write, bare}
-use Rattle.line.specs.declared.content.Content.{Content}
 use Rattle.line.specs.declared.reception.Received.{Received}
 use Rattle.line.specs.declared.requests.Request.{Request}
 use Rattle.line.specs.declared.requests.Request.TheVariants.{TagQuestion, TextWrite, NumberWrite, Bare}
@@ -15,7 +13,3 @@ seen (Bare command) = bare command
 
 abbrev pub heard : Received → Reception
 heard r = record { preambles = r.preambles; span = r.span.now; marks = r.marks }
-
--- what is written of a reply's data
-abbrev pub written : Content → List ℕ
-written c = take c.len c.bytes

@@ -1,5 +1,8 @@
 ghost use Rattle.std.specs.Prelude.{◌≡◌};
+ghost use Rattle.setpoint.specs.Refusals.{code_of};
 ghost use Rattle.line.specs.Codes.{code_number};
+
+use setpoint::SetpointRefusal;
 
 // Response codes of a reply, by the names of the protocol, with the numbers that stand in its first status byte.
 #[derive(Clone, Copy, PartialEq, Eq, Debug)]
@@ -19,6 +22,18 @@ impl ResponseCode {
         ensures { result ≡ code_number self }
     {
         self as u8
+    }
+}
+
+impl From<SetpointRefusal> for ResponseCode {
+    ghost from_gives = { λ e r. code_number r ≡ code_of e };
+
+    fn from(e: SetpointRefusal) -> ResponseCode {
+        match e {
+            SetpointRefusal::NotANumber => ResponseCode::InvalidSelection,
+            SetpointRefusal::AboveCeiling => ResponseCode::TooLarge,
+            SetpointRefusal::BelowZero => ResponseCode::TooSmall,
+        }
     }
 }
 

@@ -8,9 +8,9 @@ ghost use Rattle.line.specs.Codes.{code_number, code_of, weighed, percent?};
 use crate::codes::{Header, ResponseCode};
 use crate::commands::*;
 use record::{Fields, Record};
-use setpoint::SetpointRefusal;
 
-// The response code of a sound request to a channel: each arm is one line of the order in which codes are tried.
+// The response code of a sound request to a channel, by one `match`, a rule of the project: each arm is one line of the order in
+// which codes are tried. Of command and data, and not of a frame, whose address and check have no part in it.
 pub fn response_code(command: u8, data: &[u8], record: &Record, header: Header) -> ResponseCode
     ensures { code_number result ≡ code_of command «data».now «record».now header }
 {
@@ -24,8 +24,8 @@ pub fn response_code(command: u8, data: &[u8], record: &Record, header: Header) 
         | READ_ASSEMBLY_NUMBER
         | READ_SETPOINT => ResponseCode::Success,
         WRITE_POLLING_ADDRESS if count != 1 => ResponseCode::ByteCount,
-        WRITE_MESSAGE if count != 24 => ResponseCode::ByteCount,
-        WRITE_TAG_DESCRIPTOR_DATE if count != 21 => ResponseCode::ByteCount,
+        WRITE_MESSAGE if count != MESSAGE_LENGTH => ResponseCode::ByteCount,
+        WRITE_TAG_DESCRIPTOR_DATE if count != MESSAGE_AT => ResponseCode::ByteCount,
         WRITE_ASSEMBLY_NUMBER if count != 3 => ResponseCode::ByteCount,
         RESET_CONFIGURATION_CHANGED if count != 0 => ResponseCode::ByteCount,
         WRITE_PREAMBLES if count != 1 => ResponseCode::ByteCount,
@@ -61,9 +61,7 @@ fn setpoint_code(data: &[u8], fields: Fields, header: Header) -> ResponseCode
     let pattern = u32::from_be_bytes([data[1], data[2], data[3], data[4]]);
     match setpoint::admitted(pattern, fields.ceiling) {
         Ok(load) => share_code(setpoint::share(load, fields.full_scale), header),
-        Err(SetpointRefusal::NotANumber) => ResponseCode::InvalidSelection,
-        Err(SetpointRefusal::AboveCeiling) => ResponseCode::TooLarge,
-        Err(SetpointRefusal::BelowZero) => ResponseCode::TooSmall,
+        Err(refusal) => refusal.into(),
     }
 }
 

@@ -4,7 +4,6 @@
 mod addressing;
 mod codes;
 mod commands;
-mod content;
 mod effects;
 mod judging;
 mod reception;
@@ -15,8 +14,9 @@ mod writer;
 
 pub use addressing::{address_means, means, tag_means};
 pub use codes::{Header, ResponseCode};
+pub use commands::TAG_LENGTH;
 pub use effects::{change_of, flag_of};
 pub use judging::response_code;
 pub use reception::Received;
 pub use requests::Request;
-pub use responding::respond;
+pub use responding::{MOST_ANSWER, respond};

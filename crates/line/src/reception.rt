@@ -6,10 +6,7 @@ ghost use Rattle.line.specs.Characters.{reception_of};
 ghost use Rattle.line.specs.Views.{heard};
 ghost use Rattle.line.specs.Whole.{frame_of, sound?, error_status};
 
-use frame::Frame;
-
-// The preambles without which no transmission is heard.
-const LEAST_PREAMBLES: usize = 2;
+use frame::{Frame, LEAST_PREAMBLES};
 
 // What a receiver keeps of a transmission: the preambles counted, the part of the bytes from the start on, and all marks from
 // the start on together.
@@ -26,11 +23,10 @@ impl<'a> Received<'a> {
         ensures { heard result ≡ reception_of bytes.now marks.now }
     {
         let preambles = frame::count_preambles(bytes);
-        let marks = marks_from(marks, preambles);
         Received {
             preambles,
             span: &bytes[preambles..],
-            marks,
+            marks: together(marks, preambles),
         }
     }
 
@@ -66,22 +62,8 @@ impl<'a> Received<'a> {
 }
 
 // All marks from a place on together.
-fn marks_from(marks: &[u8], start: usize) -> u8
+fn together(marks: &[u8], start: usize) -> u8
     ensures { result ≡ fold bit_or 0 (drop start marks.now) }
 {
-    if start < marks.len() {
-        together(&marks[start..])
-    } else {
-        0
-    }
-}
-
-fn together(marks: &[u8]) -> u8
-    ensures { result ≡ fold bit_or 0 marks.now }
-{
-    let mut all = 0;
-    for mark in marks {
-        all |= *mark;
-    }
-    all
+    marks.iter().skip(start).fold(0, |all, mark| all | mark)
 }

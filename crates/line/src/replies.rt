@@ -5,7 +5,7 @@ ghost use Rattle.line.specs.Replies.{identity_data, setpoint_data};
 
 use crate::addressing::MANUFACTURER;
 use crate::commands::PERCENT;
-use record::{Fields, pattern_of};
+use record::{Fields, pattern_of, u24_to_be_bytes};
 
 // Stands before the manufacturer in the data of an identity.
 const EXPANSION: u8 = 0xFE;
@@ -14,7 +14,7 @@ const EXPANSION: u8 = 0xFE;
 pub(crate) fn identity_data(fields: Fields) -> [u8; 12]
     ensures { result ≡ identity_data fields }
 {
-    let [_, a, b, c] = fields.identification.to_be_bytes();
+    let [a, b, c] = u24_to_be_bytes(fields.identification);
     [
         EXPANSION,
         MANUFACTURER,
@@ -37,13 +37,6 @@ pub(crate) fn flow_data(unit: u8, flow: f32) -> [u8; 5]
 {
     let [a, b, c, d] = pattern_of(flow).to_be_bytes();
     [unit, a, b, c, d]
-}
-
-pub(crate) fn assembly_data(number: u32) -> [u8; 3]
-    ensures { result ≡ bytes24 number }
-{
-    let [_, a, b, c] = number.to_be_bytes();
-    [a, b, c]
 }
 
 // Percent, the setpoint, the flow unit, the setpoint in units.

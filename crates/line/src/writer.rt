@@ -1,59 +1,54 @@
 ghost use Rattle.std.specs.Prelude.{◌≡◌, ◌+◌, ◌≤◌, [], ◌∷◌, ◌++◌, length};
 ghost use Rattle.line.specs.Replies.{reply_data};
-ghost use Rattle.line.specs.Views.{written};
 
 use crate::commands::*;
-use crate::content::Content;
 use crate::replies::*;
-use record::Record;
+use arrayvec::ArrayVec;
+use frame::Frame;
+use record::{Record, u24_to_be_bytes};
 
-// The writer of what a reply carries; it never goes past the room of a `Content`.
-impl Content {
-    // The two status bytes, and no data yet.
-    pub(crate) fn of(status: u8, second: u8) -> Content
-        ensures bytes { written result ≡ status ∷ second ∷ [] }
-        ensures len { result.len ≡ 2 }
-    {
-        let mut bytes = [0; 26];
-        bytes[0] = status;
-        bytes[1] = second;
-        Content { bytes, len: 2 }
-    }
+// Two status bytes and at most 24 data bytes.
+const MOST_CONTENT: usize = 26;
 
-    pub(crate) fn bytes(&self) -> &[u8]
-        ensures { result.now ≡ written self.now }
-    {
-        &self.bytes[0..self.len]
-    }
+// What a reply's frame carries.
+pub(crate) type Content = ArrayVec<u8, MOST_CONTENT>;
 
-    fn put(&mut self, part: &[u8])
-        requires { self.old.len + length part.now ≤ 26 }
-        ensures bytes { written self.new ≡ written self.old ++ part.now }
-        ensures len { self.new.len ≡ self.old.len + length part.now }
-    {
-        let end = self.len + part.len();
-        self.bytes[self.len..end].copy_from_slice(part);
-        self.len = end;
-    }
+// The two status bytes, and no data yet.
+pub(crate) fn status_bytes(status: u8, second: u8) -> Content
+    ensures { result.items ≡ status ∷ second ∷ [] }
+{
+    let mut content = Content::new();
+    content.push(status);
+    content.push(second);
+    content
+}
 
-    // The data of a reply of code 0, from the request's data and the record after the command.
-    pub(crate) fn put_data(&mut self, command: u8, data: &[u8], record: &Record)
-        requires { self.old.len + length (reply_data command «data».now «record».now) ≤ 26 }
-        ensures bytes { written self.new ≡ written self.old ++ reply_data command «data».now «record».now }
-    {
-        match command {
-            READ_UNIQUE_IDENTIFIER | READ_UNIQUE_IDENTIFIER_BY_TAG => {
-                self.put(&identity_data(record.fields))
-            }
-            READ_PRIMARY_VARIABLE => {
-                self.put(&flow_data(record.fields.flow_unit, record.reading.flow))
-            }
-            READ_MESSAGE => self.put(&record.text[21..45]),
-            READ_TAG_DESCRIPTOR_DATE => self.put(&record.text[0..21]),
-            READ_ASSEMBLY_NUMBER => self.put(&assembly_data(record.fields.assembly_number)),
-            READ_SETPOINT | WRITE_SETPOINT => self.put(&setpoint_data(record.fields)),
-            RESET_CONFIGURATION_CHANGED => {}
-            _ => self.put(data),
+// Appends a part for which there is room.
+fn put(content: &mut Content, part: &[u8])
+    requires { length content.old.items + length part.now ≤ 26 }
+    ensures { content.new.items ≡ content.old.items ++ part.now }
+{
+    let _ = content.try_extend_from_slice(part);
+}
+
+// Appends the data of a reply of code 0, from the request and the record after the command.
+pub(crate) fn put_data(content: &mut Content, request: Frame<'_>, record: &Record)
+    requires { length content.old.items + length (reply_data request.command request.«data».now «record».now) ≤ 26 }
+    ensures { content.new.items ≡ content.old.items ++ reply_data request.entry.command request.entry.«data».now «record».now }
+{
+    match request.command {
+        READ_UNIQUE_IDENTIFIER | READ_UNIQUE_IDENTIFIER_BY_TAG => {
+            put(content, &identity_data(record.fields))
         }
+        READ_PRIMARY_VARIABLE => put(
+            content,
+            &flow_data(record.fields.flow_unit, record.reading.flow),
+        ),
+        READ_MESSAGE => put(content, &record.text[MESSAGE_AT..]),
+        READ_TAG_DESCRIPTOR_DATE => put(content, &record.text[0..MESSAGE_AT]),
+        READ_ASSEMBLY_NUMBER => put(content, &u24_to_be_bytes(record.fields.assembly_number)),
+        READ_SETPOINT | WRITE_SETPOINT => put(content, &setpoint_data(record.fields)),
+        RESET_CONFIGURATION_CHANGED => {}
+        _ => put(content, request.data),
     }
 }

@@ -1,10 +1,10 @@
 // Plays a recording of a panel: `rack.rec` beside it is the rack, events come from standard input, lines go to standard output.
 #![tactic(auto)]
 
-use anyhow::anyhow;
+use anyhow::ensure;
 use player::{Player, Tape, play};
 use std::fs;
-use std::io::{Read, Write};
+use std::io::{self, Read, Write};
 
 // The record file, in the folder that the program is run in.
 const RACK_FILE: &str = "rack.rec";
@@ -22,11 +22,9 @@ impl Tape for Console {
     // What a terminal or a pipe took is not known.
     ghost written = { λ c out. Unit {0} };
 
-    fn exchange(&mut self, lines: &[u8], block: &mut [u8]) -> Option<usize> {
-        if self.rt.stdout().write_all(lines).is_err() {
-            return None;
-        }
-        self.rt.stdin().read(block).ok()
+    fn exchange(&mut self, lines: &[u8], block: &mut [u8]) -> io::Result<usize> {
+        self.rt.stdout().write_all(lines)?;
+        self.rt.stdin().read(block)
     }
 }
 
@@ -41,8 +39,9 @@ fn run(rt: &HostRuntime) -> anyhow::Result<()> {
         println!(rt; "refused {}", fault.refusal().number())?;
         return Ok(());
     }
-    if !player.is_complete() {
-        return Err(anyhow!("the recording was not played to its end"));
-    }
+    ensure!(
+        player.is_complete(),
+        "the recording was not played to its end"
+    );
     Ok(())
 }

@@ -21,6 +21,7 @@ fn main(rt: HostRuntime) -> anyhow::Result<()> {
     run(&rt)
 }
 
+// Each program has this loop: a function of a library that reads a program's input could promise nothing of its result.
 fn run(rt: &HostRuntime) -> anyhow::Result<()> {
     for line in rt.lines(rt.alloc()) {
         let line = line?;
@@ -65,10 +66,21 @@ fn respond(rt: &HostRuntime, words: &[&str]) -> anyhow::Result<()> {
     let [row, supply, others, bytes, marks, length] = words else {
         return Err(anyhow!("a call of another form"));
     };
-    let record = channel(rt.alloc(), row)?;
+    let before = channel(rt.alloc(), row)?;
     let header = header_of(supply, others)?;
-    let length = length.parse::<usize>()?;
-    answer(rt, &record, header, bytes, marks, length)
+    let bytes = to_bytes(rt.alloc(), bytes)?;
+    let marks = to_bytes(rt.alloc(), marks)?;
+    let received = Received::of(bytes.as_slice(), marks.as_slice());
+    let mut out = vec![in rt.alloc(); UNTOUCHED; length.parse()?]?;
+    let mut after = before;
+    let answer = line::respond(received, &mut after, header, out.as_mut_slice());
+    let outcome = Outcome {
+        answer,
+        before,
+        after,
+        out: out.as_slice(),
+    };
+    outcome.tell(rt)
 }
 
 // The record of a row, lawful or not.
@@ -84,67 +96,47 @@ fn header_of(supply: &str, others: &str) -> anyhow::Result<Header> {
     Ok(Header { supply, others })
 }
 
-fn answer(
-    rt: &HostRuntime,
-    before: &Record,
-    header: Header,
-    bytes: &str,
-    marks: &str,
-    length: usize,
-) -> anyhow::Result<()> {
-    let bytes = to_bytes(rt.alloc(), bytes)?;
-    let marks = to_bytes(rt.alloc(), marks)?;
-    let received = Received::of(bytes.as_slice(), marks.as_slice());
-    let mut out = vec![in rt.alloc(); UNTOUCHED; length]?;
-    let mut after = *before;
-    let answer = line::respond(received, &mut after, header, out.as_mut_slice());
-    tell(rt, answer, before, &after, out.as_slice())
+// What a call answered, with the record before and after it and the buffer after it.
+#[derive(Clone, Copy)]
+struct Outcome<'a> {
+    answer: Result<Option<usize>, Refusal>,
+    before: Record,
+    after: Record,
+    out: &'a [u8],
 }
 
-// Prints what a call answered, unless it wrote what it has to leave alone.
-fn tell(
-    rt: &HostRuntime,
-    answer: Result<Option<usize>, Refusal>,
-    before: &Record,
-    after: &Record,
-    out: &[u8],
-) -> anyhow::Result<()> {
-    if !leaves_the_rest(answer, before, after, out) {
-        println!(rt; "bytes were written that had to stay")?;
-        return Ok(());
+impl Outcome<'_> {
+    // Prints the answer, unless the call wrote what it has to leave alone.
+    fn tell(self, rt: &HostRuntime) -> anyhow::Result<()> {
+        if !self.leaves_the_rest() {
+            println!(rt; "bytes were written that had to stay")?;
+            return Ok(());
+        }
+        match self.answer {
+            Ok(Some(len)) => self.tell_bytes(rt, len),
+            Ok(None) => Ok(println!(rt; "silent")?),
+            Err(refusal) => Ok(println!(rt; "refused {}", refusal.number())?),
+        }
     }
-    match answer {
-        Ok(Some(len)) => tell_answer(rt, out.get(0..len).unwrap_or(&[]), after),
-        Ok(None) => Ok(println!(rt; "silent")?),
-        Err(refusal) => Ok(println!(rt; "refused {}", refusal.number())?),
-    }
-}
 
-// Whether the bytes past an answer are untouched, and without an answer all bytes of buffer and record.
-fn leaves_the_rest(
-    answer: Result<Option<usize>, Refusal>,
-    before: &Record,
-    after: &Record,
-    out: &[u8],
-) -> bool {
-    match answer {
-        Ok(Some(len)) => untouched(out.get(len..).unwrap_or(out)),
-        _ => untouched(out) && record::encode(before) == record::encode(after),
+    // Whether the bytes past an answer are untouched, and without an answer all bytes of buffer and record.
+    fn leaves_the_rest(self) -> bool {
+        match self.answer {
+            Ok(Some(len)) => untouched(self.out.get(len..).unwrap_or(self.out)),
+            _ => {
+                untouched(self.out) && record::encode(&self.before) == record::encode(&self.after)
+            }
+        }
+    }
+
+    fn tell_bytes(self, rt: &HostRuntime, len: usize) -> anyhow::Result<()> {
+        let bytes = from_bytes(rt.alloc(), self.out.get(0..len).unwrap_or(&[]))?;
+        let after = from_bytes(rt.alloc(), &record::encode(&self.after))?;
+        println!(rt; "answered {bytes} {after}")?;
+        Ok(())
     }
 }
 
 fn untouched(bytes: &[u8]) -> bool {
-    for byte in bytes {
-        if *byte != UNTOUCHED {
-            return false;
-        }
-    }
-    true
-}
-
-fn tell_answer(rt: &HostRuntime, answer: &[u8], after: &Record) -> anyhow::Result<()> {
-    let answer = from_bytes(rt.alloc(), answer)?;
-    let after = from_bytes(rt.alloc(), &record::encode(after))?;
-    println!(rt; "answered {answer} {after}")?;
-    Ok(())
+    bytes.iter().all(|byte| *byte == UNTOUCHED)
 }

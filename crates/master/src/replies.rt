@@ -5,6 +5,9 @@ ghost use Rattle.master.specs.Replies.{data_of, long_address, flow_of};
 // The first byte of a long address from the primary master: bit 7, and the manufacturer.
 const PRIMARY_TO_MANUFACTURER: u8 = 0x8A;
 
+// What stands before the data of a reply with a long address: start, address, command, count and two status bytes.
+const LENGTH_BEFORE_DATA: usize = 10;
+
 // The long address of a channel, from a reply with a long address that tells its unique identifier.
 pub fn long_address(reply: &[u8]) -> Option<[u8; 5]>
     ensures { result ≡ long_address (data_of (span_of reply.now)) }
@@ -27,13 +30,13 @@ pub fn flow_pattern(reply: &[u8]) -> Option<u32>
     }
 }
 
-// The data of a reply with a long address, without preambles, start, address, command, count, two status bytes and check.
+// The data of a reply with a long address, without preambles, what stands before the data, and the check.
 fn reply_data(bytes: &[u8]) -> &[u8]
     ensures { result.now ≡ data_of (span_of bytes.now) }
 {
     let span = &bytes[frame::count_preambles(bytes)..];
-    if span.len() < 11 {
-        return &[];
+    match span.get(LENGTH_BEFORE_DATA..) {
+        Some([data @ .., _]) => data,
+        _ => &[],
     }
-    &span[10..span.len() - 1]
 }

@@ -11,6 +11,7 @@ use Rattle.runs.specs.Outcomes.{Outcome, outcome_of}
 use Rattle.runs.specs.Steps.{Step}
 use Rattle.runs.specs.Traces.{Call, Result, character, taken, refused, ◌▸◌}
 use Rattle.runs.proofs.SetUps.{calls_follow}
+use Rattle.panel.specs.declared.state.Panel.{Panel}
 use Rattle.panel.specs.Panels.{channels_of, outcome_for, records_for, Does}
 
 -- the outcome o is that of the call, for the characters t
@@ -37,13 +38,14 @@ module _ (supply : Option ℕ) (records records' : List Record) (x' : Receiver) 
       let s3 : Step channel (capacity_of n) records t (c ▸ result) records' o.line = subst (λ (qs : List Record). Step channel (capacity_of n) records t (c ▸ result) qs o.line) (sym q) s2 in
       subst (λ (w : Option ℕ). Step channel (capacity_of n) records t (c ▸ result) records' (outcome_for w records t c).line) (sym e) s3
 
-  pub does : (x : Receiver) → ((t : List Character) → Holds x t → Comes supply records records' x' (outcome_for supply records t c) result) → Does supply supply records records' x x' c result
-  does x all = record {
-    keeps = refl;
+module _ {X : Type 0} (records : X → List Record) (p p' : Panel X) (c : Call channel) (result : Result channel) where
+  pub does : p'.supply ≡ p.supply → ((t : List Character) → Holds p.receiver t → Comes p.supply (records p.rack) (records p'.rack) p'.receiver (outcome_for p.supply (records p.rack) t c) result) → Does records p p' c result
+  does keeps all = record {
+    keeps = keeps;
     result_is = λ t h. (all t h).result_is;
     records_are = λ t h. (all t h).records_are;
     holds = λ t h. (all t h).holds;
-    steps = λ n e few t h. steps_on n e few t (all t h);
+    steps = λ n e few t h. steps_on p.supply (records p.rack) (records p'.rack) p'.receiver c result n e few t (all t h);
   }
 
 -- an outcome that leaves the channels leaves the records
@@ -59,6 +61,11 @@ unmoved None records y t = refl
 pub comes : (supply : Option ℕ) (records : List Record) (x' : Receiver) (o : Outcome channel) (y : Result channel) (u : List Character)
     → o ≡ outcome_of channel y (channels_of supply records) u → Holds x' u → Comes supply records records x' o y
 comes supply records x' o y u e h = subst (λ (o : Outcome channel). Comes supply records records x' o y) (sym e) (record { result_is = refl; records_are = unmoved supply records y u; holds = h })
+
+-- a call that is refused with this outcome, and leaves the panel
+pub refuses : {X : Type 0} (records : X → List Record) (p : Panel X) (c : Call channel) (n : ℕ)
+    → ((t : List Character) → outcome_for p.supply (records p.rack) t c ≡ outcome_of channel (refused n) (channels_of p.supply (records p.rack)) t) → Does records p p c (refused n)
+refuses records p c n e = does records p p c (refused n) refl (λ t h. comes p.supply (records p.rack) p.receiver (outcome_for p.supply (records p.rack) t c) (refused n) t (e t) h)
 
 -- a character
 pub taken_character : (supply : Option ℕ) (records : List Record) (t : List Character) (c : Character) → c.marks ≤ 7

@@ -4,7 +4,8 @@ use Rattle.std.specs.Result.{result_ok}
 use Rattle.std.specs.List.{AllByRecursion}
 use Rattle.std.proofs.ByRecursion.{All-drop}
 use Rattle.std.proofs.lemmas.List.{take_all}
-use Rattle.std.proofs.lemmas.Bool.{cases_Bool, cases_lt, le-leb, lt-leb, le-ltb, ltb-true, ltb-false, leb-true, cond-true, cond-false}
+use Rattle.std.proofs.lemmas.Bool.{cases_Bool, le-leb, le-ltb, ltb-true, ltb-false, leb-true, cond-true, cond-false}
+use Rattle.std.proofs.lemmas.Bool.Decides.{nat_tests}
 use Rattle.frame.specs.Frames.{Parts, request_frame}
 use Rattle.frame.specs.Transmissions.{preambles_of, span_of}
 use Rattle.frame.proofs.Frames.{request_limit}
@@ -86,10 +87,7 @@ abbrev low : Reception → Reception
 low x = record { preambles = min x.preambles 2; span = x.span; marks = x.marks }
 
 two : (p : ℕ) → leb 2 (min p 2) ≡ leb 2 p
-two p = elim (cases_lt p 2) [
-  | inl l ↦ lt-leb 2 (min p 2) (omega arith) ∙ sym (lt-leb 2 p l)
-  | inr l ↦ le-leb 2 (min p 2) (omega arith) ∙ sym (le-leb 2 p l)
-]
+two p = grind (arith, nat_tests)
 
 module _ (supply : ℕ) (rs : List Record) (x : Reception) where
   low_record : (f : Parts) (k : ℕ) (o : Option Record) → served_record supply rs (low x) f k o ≡ served_record supply rs x f k o

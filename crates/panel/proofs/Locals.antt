@@ -1,26 +1,32 @@
 -- Samples and key turns, by what the rack answers.
-use Rattle.std.proofs.Common.{◌≡◌, ℕ, ◌≤◌, Bool, true, false, cond, ◌&&◌, leb, List, [], length, is_some, Some, None, Ok, Err, Option, sym, refl, ap, ◌∙◌, subst, true≢false, arith}
+use Rattle.std.proofs.Common.{◌≡◌, ℕ, ◌≤◌, Bool, true, false, cond, ◌&&◌, leb, List, length, is_some, Some, None, Ok, Err, Option, MatchResult, IsErrAnd, sym, refl, ap, ◌∙◌, subst, true≢false, arith}
 use Rattle.std.specs.Result.{result_err}
 use Rattle.std.specs.declared.result.Result as results
 use Rattle.std.proofs.lemmas.Bool.{le-leb, leb-true, cond-true}
 use Rattle.line.specs.Characters.{Character}
 use Rattle.rack.specs.Changes.{written, answer_of}
+use Rattle.rack.specs.Refusals as rack
+use Rattle.rack.specs.declared.changes.Change.{Change}
+use Rattle.rack.specs.declared.refusal.RackRefusal.{RackRefusal}
+use Rattle.refusals.specs.Refusals.{number_of}
+use Rattle.refusals.specs.declared.Refusal.{Refusal}
 use Rattle.rack.specs.Meaning.{channel_of, answered, written_at, records_after}
 use Rattle.record.specs.Readings.{is_finite}
 use Rattle.record.specs.declared.Record.{Record}
 use Rattle.receiver.specs.Holding.{Holds}
 use Rattle.receiver.specs.declared.state.Receiver.{Receiver}
 use Rattle.runs.specs.Channel.{channel, Operation, sample, key, change_of}
-use Rattle.runs.specs.Outcomes.{Outcome, outcome_of, operated_at}
+use Rattle.runs.specs.Outcomes.{Outcome, operated_at}
 use Rattle.runs.specs.Places.{element_at}
 use Rattle.runs.specs.Traces.{Result, local, taken, refused, local_result}
 use Rattle.serving.proofs.Writes.{written_after}
-use Rattle.panel.specs.Panels.{channels_of, outcome_for, records_for, Does}
+use Rattle.panel.specs.declared.state.Panel.{Panel}
+use Rattle.panel.specs.Panels.{outcome_for, records_for, Does, result_of}
 use Rattle.panel.proofs.Doing.{Comes, does}
 use Rattle.panel.proofs.Places.{element_channel, channels_few}
 
 -- a rack's answer as a result
-abbrev pub rack_result : results.Result (Unit {0}) ℕ → Result channel
+abbrev rack_result : results.Result (Unit {0}) ℕ → Result channel
 rack_result (Ok u) = taken
 rack_result (Err n) = refused n
 
@@ -57,29 +63,42 @@ module _ (n : ℕ) (rs rs' : List Record) (x : Receiver) (t : List Character) (k
 -- these operations are refused by the numbers of calls only
 number_by : (o : Option Record) (u : Operation) (m : ℕ) → answer_of (answered (written (change_of u)) o) ≡ Err m → 100 ≤ m
 number_by None u m e = let z : m ≡ 101 = cc in omega arith
-number_by (Some r) (key on) m e = let z : ◌≡◌ {A = ℕ} 0 1 = cc in absurd (omega arith)
+number_by (Some r) (key on) m e = absurd (cc)
 number_by (Some r) (sample reading) m e = by (is_finite reading) e
   where
     by : (b : Bool) → answer_of (cond b (Ok (record { fields = r.fields; reading = reading; text = r.text })) (Err 108)) ≡ Err m → 100 ≤ m
-    by true h = let z : ◌≡◌ {A = ℕ} 0 1 = cc in absurd (omega arith)
+    by true h = absurd (cc)
     by false h = let z : m ≡ 108 = cc in omega arith
 
-pub local_number : (rs : List Record) (k : ℕ) (u : Operation) (m : ℕ) → answer_of (written_at rs k (change_of u)) ≡ Err m → 100 ≤ m
+local_number : (rs : List Record) (k : ℕ) (u : Operation) (m : ℕ) → answer_of (written_at rs k (change_of u)) ≡ Err m → 100 ≤ m
 local_number rs k u m e = number_by (channel_of rs k) u m e
 
--- without channels
-pub nobody_there : (supply : Option ℕ) (rs : List Record) (t : List Character) (k : ℕ) (u : Operation) → channels_of supply rs ≡ []
-    → outcome_for supply rs t (local k u) ≡ outcome_of channel (refused 101) (channels_of supply rs) t
-nobody_there supply rs t k u e = ap (λ (qs : List Record). operated_at channel qs t k u (element_at qs k)) e ∙ ap (λ (qs : List Record). outcome_of channel (refused 101) qs t) (sym e)
+-- the call's answer by that of the rack
+abbrev pub CallsAnswer : results.Result (Unit {0}) RackRefusal → results.Result (Unit {0}) Refusal → Type 0
+CallsAnswer q r = MatchResult q (λ u. r ≡ Ok u) (λ e. IsErrAnd r (λ d. number_of d ≡ cond (leb 100 (rack.number_of e)) (rack.number_of e) 110))
+
+calls_answer : (w : results.Result Record ℕ) (q : results.Result (Unit {0}) RackRefusal) (r : results.Result (Unit {0}) Refusal)
+    → rack.numbered q ≡ answer_of w → ((m : ℕ) → answer_of w ≡ Err m → 100 ≤ m) → CallsAnswer q r → result_of r ≡ rack_result (answer_of w)
+calls_answer w (Ok u) r a n h = rw (h, ← a) refl
+calls_answer w (Err e) (Ok u) a n h = absurd h
+calls_answer w (Err e) (Err d) a n h = ap refused (h ∙ cond-true _ _ _ (le-leb 100 (rack.number_of e) (n (rack.number_of e) (sym a)))) ∙ ap rack_result a
 
 -- an operation on a panel that was set up
-pub operated : (supply : Option ℕ) (rs rs' : List Record) (x : Receiver) (k : ℕ) (u : Operation) → (is_some supply && leb (length rs) 15) ≡ true
-    → rs' ≡ records_after (written_at rs k (change_of u)) rs k → (y : Result channel) → y ≡ rack_result (answer_of (written_at rs k (change_of u))) → Does supply supply rs rs' x x (local k u) y
-operated (Some n) rs rs' x k u up after y e =
-    does (Some n) rs rs' x (local k u) y x (λ t h. local_comes n rs rs' x t k u (leb-true (length rs) 15 up) h after y e)
-operated None rs rs' x k u up after y e = absurd (true≢false (sym up))
+operated_comes : (supply : Option ℕ) (rs rs' : List Record) (x : Receiver) (k : ℕ) (u : Operation) → true ≡ (is_some supply && leb (length rs) 15)
+    → rs' ≡ records_after (written_at rs k (change_of u)) rs k → (y : Result channel) → y ≡ rack_result (answer_of (written_at rs k (change_of u)))
+    → (t : List Character) → Holds x t → Comes supply rs rs' x (outcome_for supply rs t (local k u)) y
+operated_comes (Some n) rs rs' x k u up after y e t h = local_comes n rs rs' x t k u (leb-true (length rs) 15 (sym up)) h after y e
+operated_comes None rs rs' x k u up after y e t h = absurd (true≢false up)
 
--- the refusal of a call in the place of the rack's
-pub refused_by_lem : (rs : List Record) (k : ℕ) (u : Operation) (m r : ℕ) → Err m ≡ answer_of (written_at rs k (change_of u)) → r ≡ cond (leb 100 m) m 110
-    → refused r ≡ rack_result (answer_of (written_at rs k (change_of u)))
-refused_by_lem rs k u m r e c = ap refused (c ∙ cond-true _ _ _ (le-leb 100 m (local_number rs k u m (sym e)))) ∙ ap rack_result e
+module _ {X : Type 0} (records : X → List Record) (p : Panel X) (after : X) (k : ℕ) (u : Operation) (q : results.Result (Unit {0}) RackRefusal) (r : results.Result (Unit {0}) Refusal) where
+  abbrev rs : List Record
+  rs = records p.rack
+
+  abbrev ByChange : Change → Type 0
+  ByChange x = records after ≡ records_after (written_at rs k x) rs k → rack.numbered q ≡ answer_of (written_at rs k x) → Does records p (record p { rack = after }) (local k u) (result_of r)
+
+  pub operated : true ≡ (is_some p.supply && leb (length rs) 15) → CallsAnswer q r → (x : Change) → x ≡ change_of u → ByChange x
+  operated up cases x e =
+      subst ByChange (sym e) (λ wrote answer.
+      let y = calls_answer (written_at rs k (change_of u)) q r answer (local_number rs k u) cases in
+      does records p (record p { rack = after }) (local k u) (result_of r) refl (operated_comes p.supply rs (records after) p.receiver k u up wrote (result_of r) y))

@@ -1,6 +1,10 @@
 -- The record at a place, as the run relation and as the rack say it.
-use Rattle.std.proofs.Common.{◌≡◌, ℕ, zero, suc, ◌<◌, ◌≤◌, true, ◌&&◌, leb, List, [], ◌∷◌, ◌++◌, length, drop, is_some, Some, None, Ok, Err, Option, sym, refl, ap, ◌∙◌, subst, true≢false, arith}
+use Rattle.std.proofs.Common.{◌≡◌, ℕ, zero, suc, ◌<◌, ◌≤◌, true, ◌&&◌, leb, List, [], ◌∷◌, ◌++◌, length, drop, is_some, Some, None, Ok, Err, Option, Result, MatchOption, sym, refl, ap, ◌∙◌, subst, true≢false}
 use Rattle.std.proofs.lemmas.Bool.{le-leb, leb-true, lt-ltb, le-ltb}
+use Rattle.std.specs.Option.{ok_or}
+use Rattle.refusals.specs.Refusals.{number_of}
+use Rattle.refusals.specs.declared.Refusal.{Refusal}
+use Rattle.refusals.specs.declared.Refusal.TheVariants.{NoChannel, ShortBuffer}
 use Rattle.record.specs.Layout.{encoded}
 use Rattle.rack.specs.Meaning.{record_at, channel_of}
 use Rattle.record.specs.declared.Record.{Record}
@@ -19,18 +23,34 @@ element_channel records k few = element_record records k ∙ sym (channel_record
 pub channels_few : (n : ℕ) (records : List Record) → length records ≤ 15 → channels_of (Some n) records ≡ records
 channels_few n records few = rw (le-leb (length records) 15 few) refl
 
-pub channel_here : (supply : Option ℕ) (records : List Record) (k : ℕ) → (is_some supply && leb (length records) 15) ≡ true → element_at (channels_of supply records) k ≡ channel_of records k
-channel_here (Some n) records k e = let few = leb-true (length records) 15 e in ap (λ (rs : List Record). element_at rs k) (channels_few n records few) ∙ element_channel records k few
-channel_here None records k e = absurd (true≢false (sym e))
-
 -- what a look says, by the record that is there
-pub look_none : (buffer : List ℕ) (o : Option Record) → None ≡ o → (Err 101 ≡ look_record buffer o) × (buffer ≡ look_buffer buffer o)
-look_none buffer None e = (refl, refl)
-look_none buffer (Some r) e = let z : ◌≡◌ {A = ℕ} 0 1 = cc in absurd (omega arith)
+pub record Looked (buffer : List ℕ) (said : Result (Unit {0}) ℕ) (after : List ℕ) (o : Option Record) : Type 0 where
+  pub answer : said ≡ look_record buffer o
+  pub leaves : after ≡ look_buffer buffer o
 
-pub look_short : (buffer : List ℕ) (o : Option Record) (r : Record) → Some r ≡ o → length buffer < 80 → (Err 102 ≡ look_record buffer o) × (buffer ≡ look_buffer buffer o)
-look_short buffer o r e l = subst (λ (p : Option Record). (Err 102 ≡ look_record buffer p) × (buffer ≡ look_buffer buffer p)) e (rw (lt-ltb (length buffer) 80 l) (refl, refl))
+pub missing : {buffer : List ℕ} (o : Option Record) (e : Refusal) → Err e ≡ ok_or o NoChannel → Looked buffer (Err (number_of e)) buffer o
+missing None e h = record { answer = (let k : e ≡ NoChannel = cc in ap (λ (x : Refusal). Err (number_of x)) k); leaves = refl }
+missing (Some r) e h = absurd (cc)
 
-pub look_filled : (buffer bytes : List ℕ) (o : Option Record) (r : Record) → Some r ≡ o → 80 ≤ length buffer → bytes ≡ encoded r → (Ok tt ≡ look_record buffer o) × (bytes ++ drop 80 buffer ≡ look_buffer buffer o)
-look_filled buffer bytes o r e l b =
-    subst (λ (p : Option Record). (Ok tt ≡ look_record buffer p) × (bytes ++ drop 80 buffer ≡ look_buffer buffer p)) e (rw (le-ltb (length buffer) 80 l) (refl, ap (λ (x : List ℕ). x ++ drop 80 buffer) b))
+pub short : {buffer : List ℕ} (o : Option Record) (r : Record) → Ok r ≡ ok_or o NoChannel → {X : Type 0} (P : X → Type 0) (front : Option X) (e : Refusal) → MatchOption front (length buffer < 80) P → Err e ≡ ok_or front ShortBuffer
+    → Looked buffer (Err (number_of e)) buffer o
+short None r h P front e l f = absurd (cc)
+short (Some q) r h P (Some x) e l f = absurd (cc)
+short {buffer} (Some q) r h P None e l f =
+    let b = lt-ltb (length buffer) 80 l in
+    record { answer = rw b (let k : e ≡ ShortBuffer = cc in ap (λ (x : Refusal). Err (number_of x)) k); leaves = rw b refl }
+
+pub filled : {buffer bytes : List ℕ} (o : Option Record) (r : Record) → Ok r ≡ ok_or o NoChannel → 80 ≤ length buffer → bytes ≡ encoded r → Looked buffer (Ok tt) (bytes ++ drop 80 buffer) o
+filled None r h l b = absurd (cc)
+filled {buffer} (Some q) r h l e =
+    let b = le-ltb (length buffer) 80 l in
+    record { answer = rw b refl; leaves = rw b (let k : r ≡ q = cc in ap (λ (x : List ℕ). x ++ drop 80 buffer) (e ∙ ap encoded k)) }
+
+-- the record that is found at a channel is that of the panel, if it was set up
+channel_here : (supply : Option ℕ) (records : List Record) (k : ℕ) → true ≡ (is_some supply && leb (length records) 15) → channel_of records k ≡ element_at (channels_of supply records) k
+channel_here (Some n) records k e = let few = leb-true (length records) 15 (sym e) in sym (ap (λ (rs : List Record). element_at rs k) (channels_few n records few) ∙ element_channel records k few)
+channel_here None records k e = absurd (true≢false e)
+
+pub looked : (supply : Option ℕ) (records : List Record) (k : ℕ) → true ≡ (is_some supply && leb (length records) 15) → (found : Option Record) → found ≡ channel_of records k
+    → {buffer : List ℕ} {said : Result (Unit {0}) ℕ} {after : List ℕ} → Looked buffer said after found → Looked buffer said after (element_at (channels_of supply records) k)
+looked supply records k up found told {buffer} {said} {after} = subst (Looked buffer said after) (told ∙ channel_here supply records k up)

@@ -1,6 +1,7 @@
 -- The outcome of a transmission at a channel, with what the header objects to apart.
-use Rattle.std.proofs.Common.{◌≡◌, ℕ, ◌+◌, cond, not, ◌&&◌, ltb, leb, refl, inl, inr}
-use Rattle.std.proofs.lemmas.Bool.{cases_Bool, cases_lt, lt-ltb, le-ltb, lt-leb, le-leb}
+use Rattle.std.proofs.Common.{◌≡◌, ℕ, ◌+◌, cond, not, ◌&&◌, ltb, leb, refl, inl, inr, arith}
+use Rattle.std.proofs.lemmas.Bool.{cases_Bool}
+use Rattle.std.proofs.lemmas.Bool.Decides.{nat_tests}
 use Rattle.frame.specs.Frames.{Parts}
 use Rattle.header.specs.Shares.{capacity_of}
 use Rattle.line.specs.Answers.{outcome, own_outcome, refused}
@@ -11,10 +12,7 @@ use Rattle.line.specs.declared.codes.Header.{Header}
 use Rattle.record.specs.declared.Record.{Record}
 
 above : (c n : ℕ) → not (leb n c) ≡ ltb c n
-above c n = elim (cases_lt c n) [
-  | inl l ↦ rw (lt-leb n c l, lt-ltb c n l) refl
-  | inr l ↦ rw (le-leb n c l, le-ltb c n l) refl
-]
+above c n = grind (arith, nat_tests)
 
 pub outcome_split : (x : Reception) (f : Parts) (r : Record) (h : Header)
     → outcome x f r h ≡ cond ((sound? x && asks? f.command f.«data» r) && ltb (capacity_of h.supply) (h.others + asked_share f.«data» r)) (refused 16 r) (own_outcome x f r)

@@ -4,8 +4,7 @@ use Rattle.std.specs.declared.result.Result as results
 use Rattle.header.specs.Shares.{capacity_of}
 use Rattle.line.specs.Characters.{Character, Reception}
 use Rattle.receiver.specs.Holding.{Holds}
-use Rattle.receiver.specs.Summaries.{Summary, reception}
-use Rattle.receiver.specs.declared.state.Receiver.{Receiver}
+use Rattle.receiver.specs.Summaries.{Summary, reception, held}
 use Rattle.record.specs.Layout.{encoded}
 use Rattle.record.specs.declared.Record.{Record}
 use Rattle.refusals.specs.Refusals.{number_of}
@@ -15,14 +14,17 @@ use Rattle.runs.specs.Outcomes.{Outcome, outcome}
 use Rattle.runs.specs.Steps.{Step}
 use Rattle.runs.specs.Traces.{Call, Result, taken, refused, silent, answered, ◌▸◌}
 use Rattle.serving.specs.Serving.{Served, silence, served}
-use Rattle.panel.specs.declared.outcomes.Gap.{Gap}
-use Rattle.panel.specs.declared.outcomes.Gap.TheVariants.{Silent, Answered}
+use Rattle.serving.specs.declared.serving.Answer.{Answer}
+use Rattle.panel.specs.declared.state.Panel.{Panel}
 
 -- The channels of a panel are those of its rack, once a set-up was taken; before, it has none. A set-up is refused where there are
 -- more than 15, and a rack keeps its number of records.
 abbrev pub channels_of : Option ℕ → List Record → List Record
 channels_of (Some supply) records = cond (nat_le (length records) 15) records []
 channels_of None records = []
+
+abbrev pub channels_in : {X : Type 0} → (X → List Record) → Panel X → List Record
+channels_in records p = channels_of p.supply (records p.rack)
 
 abbrev pub capacity_for : Option ℕ → ℕ
 capacity_for (Some supply) = capacity_of supply
@@ -37,15 +39,15 @@ abbrev pub records_for : Option ℕ → List Record → Outcome channel → List
 records_for (Some supply) records o = cond (nat_le (length records) 15) o.rack records
 records_for None records o = records
 
--- A call that keeps the supply has this result; for whatever characters the receiver holds, it is their one outcome, and on a panel
--- that was set up it is one step of the run relation.
-pub record Does (supply supply' : Option ℕ) (records records' : List Record) (x x' : Receiver) (c : Call channel) (result : Result channel) : Type 0 where
-  pub keeps : supply' ≡ supply
-  pub result_is : (t : List Character) → Holds x t → result ≡ (outcome_for supply records t c).result
-  pub records_are : (t : List Character) → Holds x t → records' ≡ records_for supply records (outcome_for supply records t c)
-  pub holds : (t : List Character) → Holds x t → Holds x' (outcome_for supply records t c).line
-  pub steps : (n : ℕ) → supply ≡ Some n → length records ≤ 15 → (t : List Character) → Holds x t
-      → Step channel (capacity_of n) records t (c ▸ result) records' (outcome_for supply records t c).line
+-- A call that keeps the supply of a panel, whose rack means these records, has this result; for whatever characters the receiver
+-- holds, it is their one outcome, and on a panel that was set up it is one step of the run relation.
+pub record Does {X : Type 0} (records : X → List Record) (p p' : Panel X) (c : Call channel) (result : Result channel) : Type 0 where
+  pub keeps : p'.supply ≡ p.supply
+  pub result_is : (t : List Character) → Holds p.receiver t → result ≡ (outcome_for p.supply (records p.rack) t c).result
+  pub records_are : (t : List Character) → Holds p.receiver t → records p'.rack ≡ records_for p.supply (records p.rack) (outcome_for p.supply (records p.rack) t c)
+  pub holds : (t : List Character) → Holds p.receiver t → Holds p'.receiver (outcome_for p.supply (records p.rack) t c).line
+  pub steps : (n : ℕ) → p.supply ≡ Some n → length (records p.rack) ≤ 15 → (t : List Character) → Holds p.receiver t
+      → Step channel (capacity_of n) (records p.rack) t (c ▸ result) (records p'.rack) (outcome_for p.supply (records p.rack) t c).line
 
 -- a call's answer as the result of a trace
 abbrev pub result_of : results.Result (Unit {0}) Refusal → Result channel
@@ -53,9 +55,9 @@ result_of (Ok u) = taken
 result_of (Err e) = refused (number_of e)
 
 -- a gap's, with the buffer after it
-abbrev pub gap_result_of : results.Result Gap Refusal → List ℕ → Result channel
-gap_result_of (Ok Silent) buffer = silent
-gap_result_of (Ok (Answered k n)) buffer = answered k (take n buffer)
+abbrev pub gap_result_of : results.Result (Option Answer) Refusal → List ℕ → Result channel
+gap_result_of (Ok None) buffer = silent
+gap_result_of (Ok (Some a)) buffer = answered a.channel (take a.length buffer)
 gap_result_of (Err e) buffer = refused (number_of e)
 
 -- what a panel's channels do at the end of a transmission of which this is kept
@@ -67,15 +69,13 @@ abbrev pub panel_served : Option ℕ → List Record → Summary → Served
 panel_served (Some supply) records s = served_reception supply records (reception s)
 panel_served None records s = silence records
 
+abbrev pub served_in : {X : Type 0} → (X → List Record) → Panel X → Served
+served_in records p = panel_served p.supply (records p.rack) (held p.receiver)
+
 -- who answers, if anybody, as the result of a trace
 abbrev pub served_result : Option (ℕ × List ℕ) → Result channel
 served_result (Some a) = answered a.0 a.1
 served_result None = silent
-
--- a gap's outcome by channel and length
-abbrev pub gap_of : Gap → Option (ℕ × ℕ)
-gap_of Silent = None
-gap_of (Answered k n) = Some (k, n)
 
 -- the buffer after a gap: the answer stands in its front; silent or refused, it is as it was
 abbrev pub buffer_of : Result channel → List ℕ → List ℕ
@@ -85,9 +85,9 @@ buffer_of silent buffer = buffer
 buffer_of (answered k bytes) buffer = bytes ++ drop (length bytes) buffer
 
 -- a panel that was just set up under a supply: nothing is heard yet
-pub record Begun (supply : Option ℕ) (x : Receiver) (n : ℕ) : Type 0 where
-  pub supplied : supply ≡ Some n
-  pub holds : Holds x []
+pub record Begun {X : Type 0} (p : Panel X) (supply : ℕ) : Type 0 where
+  pub supplied : p.supply ≡ Some supply
+  pub holds : Holds p.receiver []
 
 -- what a look at a channel answers: 101 where there is none, then 102 where the buffer has under 80 bytes
 abbrev pub look_record : List ℕ → Option Record → results.Result (Unit {0}) ℕ
@@ -98,8 +98,3 @@ look_record buffer None = Err 101
 abbrev pub look_buffer : List ℕ → Option Record → List ℕ
 look_buffer buffer (Some r) = cond (nat_lt (length buffer) 80) buffer (encoded r ++ drop 80 buffer)
 look_buffer buffer None = buffer
-
--- how many bytes a gap's answer has
-abbrev pub gap_length : Gap → ℕ
-gap_length Silent = 0
-gap_length (Answered k n) = n

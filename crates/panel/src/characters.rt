@@ -27,7 +27,7 @@ impl<R: Rack> Panel<R> {
 
     // Takes a character of the line: 109 where its marks are above 7. Nothing is written to the rack.
     pub fn character(&mut self, byte: u8, marks: u8) -> Result<(), Refusal>
-        ensures does { Does self.old.supply self.new.supply (R.Rack.records self.old.rack) (R.Rack.records self.new.rack) self.old.receiver self.new.receiver (character (record { byte = byte; marks = marks })) (result_of result) }
+        ensures does { Does R.Rack.records self.old self.new (character (record { byte = byte; marks = marks })) (result_of result) }
         ensures same { is_ok result ≡ false → self.new ≡ self.old }
         ensures rack { self.new.rack ≡ self.old.rack }
     {

@@ -2,19 +2,17 @@ ghost use Rattle.std.specs.Prelude.{◌≡◌, ◌≤◌, false, List, [], ◌�
 ghost use Rattle.std.specs.Option.{option_map};
 ghost use Rattle.std.specs.Result.{result_err};
 ghost use Rattle.calls.specs.Views.{call_of, event_of};
-ghost use Rattle.calls.specs.declared.Outcome.TheVariants.{Taken, Refused, Silent};
 ghost use Rattle.refusals.specs.Refusals.{number_of};
 ghost use Rattle.runs.specs.Channel.{channel as flowChannel};
-ghost use Rattle.runs.specs.Traces.{Call as TraceCall, Trace, gap, ◌▸◌};
+ghost use Rattle.runs.specs.Traces.{Call as TraceCall, Trace, gap};
 ghost use Rattle.setup.specs.SetUps.{set_up_refusal};
-ghost use Rattle.panel.specs.Panels.{result_of};
 ghost use Rattle.panel.specs.Working.{Answers, Performed, Finished, Worked};
 
-use crate::outcomes::Gap;
 use crate::state::Panel;
 use calls::{Call, Outcome};
 use rack::Rack;
 use refusals::Refusal;
+use serving::Answer;
 
 // Who works a panel: it names the next call, and is told what came of it before it names another, so that it may choose each call
 // by all that happened before.
@@ -34,7 +32,7 @@ pub trait Driver {
         ensures { (h : Trace flowChannel) → told self.old h → MatchOption result (ended self.new h) (λ c. named self.new h (call_of c)) };
 
     // What came of the call that was named. A gap is told with the room that there was, at most the room that was asked for.
-    fn hear(&mut self, call: Call, outcome: Outcome<'_>)
+    fn hear(&mut self, call: Call, outcome: Result<Outcome<'_>, Refusal>)
         ensures { (h : Trace flowChannel) (c : TraceCall flowChannel) → named self.old h c → Answers c (call_of call) → told self.new (h ++ (event_of call outcome.entry ∷ [])) };
 }
 
@@ -47,13 +45,14 @@ pub fn work<R: Rack, D: Driver>(
     buffer: &mut [u8],
 ) -> Result<(), Refusal>
     ensures refusal { option_map number_of (result_err result) ≡ set_up_refusal supply (R.Rack.records panel.old.rack) }
-    ensures worked { OnOk result (Worked supply (R.Rack.records panel.old.rack) (R.Rack.records panel.new.rack) panel.new.supply panel.new.receiver (D.Driver.told driver.old) (Finished (D.Driver.ended driver.new) (D.Driver.told driver.new))) }
+    ensures worked { OnOk result (Worked R.Rack.records supply panel.old panel.new (D.Driver.told driver.old) (Finished (D.Driver.ended driver.new) (D.Driver.told driver.new))) }
     ensures same { is_ok result ≡ false → panel.new ≡ panel.old }
     ensures unasked { is_ok result ≡ false → driver.new ≡ driver.old }
 {
     panel.set_up(supply)?;
     // Nothing says that a driver ends, so the turns are counted.
     for _ in 0..u64::MAX {
+        // The end of a driver is no error, so no `?`.
         let Some(call) = driver.next() else {
             return Ok(());
         };
@@ -64,78 +63,32 @@ pub fn work<R: Rack, D: Driver>(
 
 // One call that the driver named, and what came of it told.
 fn perform<R: Rack, D: Driver>(panel: &mut Panel<R>, driver: &mut D, call: Call, buffer: &mut [u8])
-    ensures { Performed panel.old.supply panel.new.supply (R.Rack.records panel.old.rack) (R.Rack.records panel.new.rack) panel.old.receiver panel.new.receiver (λ h. D.Driver.named driver.old h (call_of call)) (D.Driver.told driver.new) }
+    ensures { Performed R.Rack.records panel.old panel.new (λ h. D.Driver.named driver.old h (call_of call)) (D.Driver.told driver.new) }
 {
-    match call {
-        Call::Character { byte, marks } => {
-            let result = panel.character(byte, marks);
-            tell(driver, call, result);
-        }
+    let result = match call {
+        Call::Character { byte, marks } => panel.character(byte, marks),
+        Call::Sample { channel, reading } => panel.sample(channel, reading),
+        Call::Key { channel, open } => panel.key(channel, open),
         Call::Gap { room } => {
             let least = room.min(buffer.len());
-            end(panel, driver, room, &mut buffer[0..least]);
+            return end(panel, driver, room, &mut buffer[0..least]);
         }
-        Call::Sample { channel, reading } => {
-            let result = panel.sample(channel, reading);
-            tell(driver, call, result);
-        }
-        Call::Key { channel, open } => {
-            let result = panel.key(channel, open);
-            tell(driver, call, result);
-        }
-    }
-}
-
-// Outcomes are made here by functions: the check does not cover one that holds no reference and is made where it is passed on.
-fn taken<'a>() -> Outcome<'a>
-    ensures { result ≡ Taken }
-{
-    Outcome::Taken
-}
-
-fn refused<'a>(refusal: Refusal) -> Outcome<'a>
-    ensures { result ≡ Refused refusal }
-{
-    Outcome::Refused(refusal)
-}
-
-fn silent<'a>() -> Outcome<'a>
-    ensures { result ≡ Silent }
-{
-    Outcome::Silent
-}
-
-// Tells the driver of a call that is taken or refused.
-fn tell<D: Driver>(driver: &mut D, call: Call, res: Result<(), Refusal>)
-    ensures { (h : Trace flowChannel) → D.Driver.named driver.old h (call_of call) → D.Driver.told driver.new (h ++ ((call_of call ▸ result_of res) ∷ [])) }
-{
-    match res {
-        Ok(()) => driver.hear(call, taken()),
-        Err(refusal) => driver.hear(call, refused(refusal)),
-    }
+    };
+    driver.hear(call, result.map(|()| Outcome::Taken));
 }
 
 // A gap with this buffer, where the driver asked for this room, and what came of it told.
 fn end<R: Rack, D: Driver>(panel: &mut Panel<R>, driver: &mut D, room: usize, out: &mut [u8])
     requires { length out.old ≤ room }
-    ensures { Performed panel.old.supply panel.new.supply (R.Rack.records panel.old.rack) (R.Rack.records panel.new.rack) panel.old.receiver panel.new.receiver (λ h. D.Driver.named driver.old h (gap room)) (D.Driver.told driver.new) }
+    ensures { Performed R.Rack.records panel.old panel.new (λ h. D.Driver.named driver.old h (gap room)) (D.Driver.told driver.new) }
 {
     let call = Call::Gap { room: out.len() };
-    let gap = match panel.gap(out) {
-        Ok(gap) => gap,
-        Err(refusal) => {
-            driver.hear(call, refused(refusal));
-            return;
+    match panel.gap(out) {
+        Ok(None) => driver.hear(call, Ok(Outcome::Silent)),
+        Ok(Some(Answer { channel, length })) => {
+            let bytes = &out[0..length];
+            driver.hear(call, Ok(Outcome::Answered { channel, bytes }));
         }
-    };
-    match gap {
-        Gap::Silent => driver.hear(call, silent()),
-        Gap::Answered { channel, length } => driver.hear(
-            call,
-            Outcome::Answered {
-                channel,
-                bytes: &out[0..length],
-            },
-        ),
+        Err(refusal) => driver.hear(call, Err(refusal)),
     }
 }

@@ -6,10 +6,9 @@ mod driving;
 mod ending;
 mod looking;
 mod operations;
-mod outcomes;
 mod setting_up;
 mod state;
 
 pub use driving::{Driver, work};
-pub use outcomes::Gap;
+pub use serving::Answer;
 pub use state::Panel;

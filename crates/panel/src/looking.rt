@@ -1,7 +1,7 @@
 ghost use Rattle.std.specs.Prelude.{◌≡◌};
 ghost use Rattle.refusals.specs.Refusals.{numbered};
 ghost use Rattle.runs.specs.Places.{element_at};
-ghost use Rattle.panel.specs.Panels.{channels_of, look_record, look_buffer};
+ghost use Rattle.panel.specs.Panels.{channels_in, look_record, look_buffer};
 
 use crate::state::Panel;
 use rack::Rack;
@@ -13,19 +13,17 @@ impl<R: Rack> Panel<R> {
     // Fills the front of `out` with the 80 bytes of a channel's record: 101 where there is no such channel, then 102 where `out`
     // has under 80 bytes. Bytes past them stay, and nothing else changes.
     pub fn look(&self, channel: u8, out: &mut [u8]) -> Result<(), Refusal>
-        ensures answer { numbered result ≡ look_record out.old (element_at (channels_of self.now.supply (R.Rack.records self.now.rack)) channel) }
-        ensures buffer { out.new ≡ look_buffer out.old (element_at (channels_of self.now.supply (R.Rack.records self.now.rack)) channel) }
+        ensures answer { numbered result ≡ look_record out.old (element_at (channels_in R.Rack.records self.now) channel) }
+        ensures buffer { out.new ≡ look_buffer out.old (element_at (channels_in R.Rack.records self.now) channel) }
     {
         if !self.is_set_up() {
             return Err(Refusal::NoChannel);
         }
-        let Some(record) = record_of(&self.rack, channel) else {
-            return Err(Refusal::NoChannel);
-        };
-        if out.len() < RECORD_LENGTH {
-            return Err(Refusal::ShortBuffer);
-        }
-        out[0..RECORD_LENGTH].copy_from_slice(&encode(&record));
+        let record = record_of(&self.rack, channel).ok_or(Refusal::NoChannel)?;
+        let front = out
+            .first_chunk_mut::<RECORD_LENGTH>()
+            .ok_or(Refusal::ShortBuffer)?;
+        *front = encode(&record);
         Ok(())
     }
 }

@@ -10,20 +10,17 @@ use crate::state::Panel;
 use rack::Rack;
 use receiver::Receiver;
 use refusals::Refusal;
-use setup::set_up_refusal;
 
 impl<R: Rack> Panel<R> {
     // Sets the panel up under a supply in mL/min: 107, 104, 105 or 106 in this order. Taken, a new transmission begins.
     pub fn set_up(&mut self, supply: u32) -> Result<(), Refusal>
         ensures refusal { option_map number_of (result_err result) ≡ set_up_refusal supply (R.Rack.records self.old.rack) }
         ensures taken { OnOk result (SetUp supply (R.Rack.records self.old.rack)) }
-        ensures begun { OnOk result (Begun self.new.supply self.new.receiver supply) }
+        ensures begun { OnOk result (Begun self.new supply) }
         ensures rack { self.new.rack ≡ self.old.rack }
         ensures same { is_ok result ≡ false → self.new ≡ self.old }
     {
-        if let Some(refusal) = set_up_refusal(&self.rack, supply) {
-            return Err(refusal);
-        }
+        setup::check(&self.rack, supply)?;
         self.supply = Some(supply);
         self.receiver = Receiver::new();
         Ok(())

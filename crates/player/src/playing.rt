@@ -7,16 +7,14 @@ ghost use Rattle.panel.specs.Working.{Finished};
 ghost use Rattle.player.specs.Playing.{play_refusal, fault_seen, play_fault, Played};
 ghost use Rattle.player.specs.declared.playing.PlayFault.TheVariants.{File, SetUp};
 
+use line::MOST_ANSWER;
 use panel::{Driver, Panel, work};
 use rack::FileFault;
 use refusals::Refusal;
 use shelf::Shelf;
 
-// No answer is longer.
-const MOST_ANSWER: usize = 64;
-
 // Why a recording is not played.
-#[derive(Clone, Copy)]
+#[derive(Clone, Copy, PartialEq, Debug)]
 pub enum PlayFault {
     // The record file, with the first record's fault whole.
     File(FileFault),
@@ -25,6 +23,7 @@ pub enum PlayFault {
 }
 
 impl PlayFault {
+    // A method and no `From`: a fault says more than its refusal.
     pub fn refusal(self) -> Refusal
         ensures { result ≡ play_refusal self }
     {

@@ -1,5 +1,3 @@
 pub mod Lawful
 pub mod Meaning
 pub mod Channels
-pub mod Beginning
-pub mod TextRuns

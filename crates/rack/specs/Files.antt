@@ -1,5 +1,6 @@
 -- Record files: records of 80 bytes, one after another.
-use Rattle.std.specs.Prelude.{ℕ, zero, suc, ◌/◌, ◌%◌, cond, ◌&&◌, List, [], ◌∷◌, map, length, take, drop, Some, None, Ok, Err, Option, Result, ◌==◌, nat_le}
+use Rattle.std.specs.Prelude.{ℕ, suc, ◌/◌, ◌%◌, cond, ◌&&◌, List, [], ◌∷◌, map, length, Some, None, Ok, Err, Option, Result, ◌==◌, nat_le}
+use Rattle.std.specs.Simd.{first_chunks}
 use Rattle.record.specs.Faults.{fault_of}
 use Rattle.record.specs.Layout.{decoded}
 use Rattle.record.specs.declared.Record.{Record}
@@ -15,10 +16,9 @@ abbrev pub refusal_of : FileFault → Refusal
 refusal_of Count = NumberOfRecords
 refusal_of (Bad e) = BadRecord
 
--- the first n records of a file, as rows of 80 bytes
-abbrev pub rows_of : ℕ → List ℕ → List (List ℕ)
-rows_of zero file = []
-rows_of (suc n) file = take 80 file ∷ rows_of n (drop 80 file)
+-- the records of a file, as rows of 80 bytes
+abbrev pub rows_of : List ℕ → List (List ℕ)
+rows_of file = first_chunks 80 (length file / 80) file
 
 abbrev pub fault_in : ℕ → Option RecordFault → Option RecordError → Option RecordError
 fault_in number (Some fault) rest = Some (record { number = number; fault = fault })
@@ -37,8 +37,8 @@ or_fault None = Ok tt
 abbrev pub file_answer : ℕ → List ℕ → Result (Unit {0}) FileFault
 file_answer most file =
     cond (length file % 80 == 0 && nat_le 1 (length file / 80) && nat_le (length file / 80) most)
-    (or_fault (first_bad 0 (rows_of (length file / 80) file))) (Err Count)
+    (or_fault (first_bad 0 (rows_of file))) (Err Count)
 
 -- the records of a file
 abbrev pub file_records : List ℕ → List Record
-file_records file = map decoded (rows_of (length file / 80) file)
+file_records file = map decoded (rows_of file)

@@ -1,5 +1,5 @@
 -- A rack by the list of records that it means, numbered from 0.
-use Rattle.std.specs.Prelude.{ℕ, zero, suc, min, cond, ◌&&◌, List, [], ◌∷◌, length, Some, None, Ok, Err, Option, Result, nat_le, nat_lt, slice_index, slice_set}
+use Rattle.std.specs.Prelude.{ℕ, min, cond, ◌&&◌, List, length, Some, None, Ok, Err, Option, Result, nat_le, nat_lt, slice_get, slice_index, slice_set}
 use Rattle.record.specs.declared.Record.{Record}
 use Rattle.rack.specs.declared.changes.Change.{Change}
 use Rattle.rack.specs.Changes.{written}
@@ -9,9 +9,7 @@ abbrev pub told : List Record → ℕ
 told records = min (length records) 16
 
 abbrev pub record_at : List Record → ℕ → Option Record
-record_at [] n = None
-record_at (r ∷ records) zero = Some r
-record_at (r ∷ records) (suc n) = record_at records n
+record_at = slice_get
 
 -- The record of a channel: there is none at a channel not below the number told, or above 14.
 abbrev pub channel_of : List Record → ℕ → Option Record

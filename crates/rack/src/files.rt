@@ -28,6 +28,7 @@ pub enum FileFault {
 }
 
 impl FileFault {
+    // A method and no `From`: it leaves out which record and which field.
     pub fn refusal(self) -> Refusal
         ensures { result ≡ refusal_of self }
     {
@@ -43,11 +44,10 @@ impl fmt::Display for FileFault {
         let refusal = self.refusal();
         match self {
             FileFault::Count => write!(f, "{refusal}"),
-            FileFault::Record(error) => {
-                let number = error.number;
-                let fault = error.fault;
-                write!(f, "{refusal} {number}: {fault}")
-            }
+            FileFault::Record(RecordError { number, fault }) => write!(
+                f,
+                "{refusal} {number}: {fault}"
+            ),
         }
     }
 }
@@ -62,7 +62,7 @@ impl From<RecordError> for FileFault {
     }
 }
 
-// Whether a record of a file is lawful.
+// Whether a record of a file is lawful. A `match`: `map_or(Ok(()), ..)` would say first what comes last.
 pub fn check_record(number: usize, row: &[u8; RECORD_LENGTH]) -> Result<(), RecordError>
     ensures fault { result_err result ≡ fault_in number (fault_of row.now) None }
     ensures lawful { OnOk result (Lawful (decoded row.now)) }

@@ -10,6 +10,9 @@ use crate::changes::Change;
 use crate::refusal::RackRefusal;
 use record::{Fields, Reading};
 
+// The most channels of a panel: of a rack's records no more can be asked and written.
+pub const MOST_CHANNELS: u8 = 15;
+
 // A rack of channels. What it means is a list of records, numbered from 0, all of them lawful.
 pub trait Rack {
     ghost records: { Self → List ChannelRecord };

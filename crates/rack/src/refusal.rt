@@ -1,5 +1,6 @@
 ghost use Rattle.std.specs.Prelude.{◌≡◌};
 ghost use Rattle.rack.specs.Refusals.{number_of};
+ghost use Rattle.rack.specs.declared.refusal.RackRefusal.TheVariants.{Call};
 ghost use Rattle.setpoint.specs.Refusals.{code_of};
 
 use refusals::Refusal;
@@ -36,5 +37,13 @@ impl From<SetpointRefusal> for RackRefusal {
             SetpointRefusal::AboveCeiling => RackRefusal::TooLarge,
             SetpointRefusal::BelowZero => RackRefusal::TooSmall,
         }
+    }
+}
+
+impl From<Refusal> for RackRefusal {
+    ghost from_gives = { λ e r. r ≡ Call e };
+
+    fn from(e: Refusal) -> RackRefusal {
+        RackRefusal::Call(e)
     }
 }

@@ -6,24 +6,15 @@ ghost use Rattle.rack.specs.Changes.{written, answer_of, record_after, stored_pa
 
 use crate::changes::Change;
 use crate::refusal::RackRefusal;
-use record::Record;
+use record::{MAX_POLLING_ADDRESS, MAX_PREAMBLES, MAX_U24, MIN_PREAMBLES, Record, TEXT_LENGTH};
 use refusals::Refusal;
-
-const MOST_POLLING_ADDRESS: u8 = 15;
-
-const LEAST_PREAMBLES: u8 = 2;
-
-const MOST_PREAMBLES: u8 = 15;
-
-const MOST_ASSEMBLY_NUMBER: u32 = 0xFF_FFFF;
 
 const MOST_TEXT_RUN: usize = 24;
 
-const TEXT_LENGTH: usize = 45;
-
 const MINUS_ZERO: u32 = 0x8000_0000;
 
-// Writes one field of a record, or refuses and leaves it as it was.
+// Writes one field of a record, or refuses and leaves it as it was. That a lawful record stays lawful is a clause and not a type:
+// a record that is not lawful can be written too.
 pub fn apply(record: &mut Record, change: Change<'_>) -> Result<(), RackRefusal>
     ensures answer { numbered result ≡ answer_of (written change.entry «record».old) }
     ensures after { «record».new ≡ record_after (written change.entry «record».old) «record».old }
@@ -31,22 +22,22 @@ pub fn apply(record: &mut Record, change: Change<'_>) -> Result<(), RackRefusal>
 {
     match change {
         Change::PollingAddress(address) => {
-            if address > MOST_POLLING_ADDRESS {
+            if address > MAX_POLLING_ADDRESS {
                 return Err(RackRefusal::InvalidSelection);
             }
             record.fields.polling_address = address;
         }
         Change::Preambles(preambles) => {
-            if preambles < LEAST_PREAMBLES {
+            if preambles < MIN_PREAMBLES {
                 return Err(RackRefusal::TooSmall);
             }
-            if preambles > MOST_PREAMBLES {
+            if preambles > MAX_PREAMBLES {
                 return Err(RackRefusal::TooLarge);
             }
             record.fields.preambles = preambles;
         }
         Change::AssemblyNumber(number) => {
-            if number > MOST_ASSEMBLY_NUMBER {
+            if number > MAX_U24 {
                 return Err(RackRefusal::TooLarge);
             }
             record.fields.assembly_number = number;
@@ -55,7 +46,7 @@ pub fn apply(record: &mut Record, change: Change<'_>) -> Result<(), RackRefusal>
         Change::Key(open) => record.fields.key_open = open,
         Change::Sample(reading) => {
             if !reading.is_finite() {
-                return Err(RackRefusal::Call(Refusal::Reading));
+                return Err(Refusal::Reading.into());
             }
             record.reading = reading;
         }
@@ -82,7 +73,7 @@ fn put_text(text: &mut [u8; TEXT_LENGTH], place: usize, bytes: &[u8]) -> Result<
     ensures after { text.new ≡ (if text_run? place bytes.now then placed place bytes.now text.old else text.old) }
 {
     if bytes.len() > MOST_TEXT_RUN || place > TEXT_LENGTH - bytes.len() {
-        return Err(RackRefusal::Call(Refusal::OutOfForm));
+        return Err(Refusal::OutOfForm.into());
     }
     text[place..place + bytes.len()].copy_from_slice(bytes);
     Ok(())

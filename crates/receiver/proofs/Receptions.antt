@@ -1,5 +1,5 @@
 -- One character more is received as the summary is pushed.
-use Rattle.std.proofs.Common.{◌≡◌, ℕ, suc, ◌+◌, ◌<◌, ◌≤◌, min, Bool, true, false, cond, ◌&&◌, eqb, ltb, List, [], ◌∷◌, ◌++◌, map, length, take, fold, sym, refl, ap, ◌∙◌, inl, inr, arith, length-append, length-take}
+use Rattle.std.proofs.Common.{◌≡◌, ℕ, suc, ◌+◌, ◌<◌, ◌≤◌, min, Bool, true, false, cond, ◌&&◌, eqb, ltb, List, [], ◌∷◌, ◌++◌, map, length, take, fold, sym, refl, ap, ◌∙◌, inl, inr, arith, length-append, length-take, add_comm, add-one}
 use lib.Bits.{bit_or}
 use Rattle.std.proofs.lemmas.Bool.{cases_Bool, cases_lt, ne_eqb, lt-ltb, le-ltb, cond-true, cond-false}
 use Rattle.std.proofs.lemmas.List.{take_all, take-append-le, length-take-le, map-append}
@@ -12,7 +12,7 @@ abbrev bump : Reception → Reception
 bump x = record { preambles = suc x.preambles; span = x.span; marks = x.marks }
 
 preamble_first : (d : Character) (t : List Character) → eqb d.byte 255 ≡ true → received (d ∷ t) ≡ bump (received t)
-preamble_first d t e = rw e refl
+preamble_first d t e = rw (e, add_comm 1, add-one) refl
 
 abbrev whole : List Character → Reception
 whole t = record { preambles = 0; span = map (λ c. c.byte) t; marks = fold bit_or 0 (map (λ c. c.marks) t) }

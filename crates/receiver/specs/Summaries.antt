@@ -1,5 +1,6 @@
 -- What a receiver keeps of the characters of a transmission.
 use Rattle.std.specs.Prelude.{ℕ, ◌+◌, min, Bool, true, cond, ◌&&◌, List, [], ◌∷◌, ◌++◌, length, take, Some, None, Option, ◌==◌, bit_or, nat_lt}
+use Rattle.std.specs.Option.{is_none, unwrap_or}
 use Rattle.line.specs.Characters.{Character, Reception}
 use Rattle.receiver.specs.declared.state.Receiver.{Receiver}
 
@@ -28,9 +29,9 @@ pushed s c =
     (record { preambles = s.preambles; span = s.span ++ c.byte ∷ []; overlong = s.overlong; marks = bit_or s.marks c.marks })
     (record { preambles = s.preambles; span = s.span; overlong = true; marks = bit_or s.marks c.marks }))
 
--- what the receiver of the code holds
+-- what the receiver of the code holds: all its bytes, where more came
 abbrev pub held : Receiver → Summary
-held r = record { preambles = r.preambles; span = take r.len r.bytes; overlong = r.overlong; marks = r.marks }
+held r = record { preambles = r.preambles; span = take (unwrap_or r.len 264) r.bytes; overlong = is_none r.len; marks = r.marks }
 
 -- what is handed on of a transmission that is not too long
 abbrev pub reception : Summary → Option Reception

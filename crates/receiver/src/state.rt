@@ -1,4 +1,5 @@
 ghost use Rattle.std.specs.Prelude.{◌≤◌};
+ghost use Rattle.std.specs.Option.{ForSome};
 
 // No whole transmission has more bytes from its start on.
 pub(crate) const MOST_SPAN: usize = 264;
@@ -8,13 +9,11 @@ pub(crate) const MOST_SPAN: usize = 264;
 pub struct Receiver {
     // Up to two: more are not told apart.
     pub(crate) preambles: usize,
-    // The span, from the start on, is the first `len` of these.
-    pub(crate) bytes: [u8; 264],
-    pub(crate) len: usize,
-    // More bytes came than there is room for.
-    pub(crate) overlong: bool,
+    // The span, from the start on, is the first `len` of these; without `len` more bytes came than there is room for.
+    pub(crate) bytes: [u8; MOST_SPAN],
+    pub(crate) len: Option<usize>,
     // All marks from the start on together.
     pub(crate) marks: u8,
-    ghost within: { len ≤ 264 },
+    ghost within: { ForSome len (λ n. n ≤ 264) },
     ghost counted: { preambles ≤ 2 },
 }

@@ -1,48 +1,26 @@
 -- Bytes without a fault are those whose fields are in range.
-use Rattle.std.proofs.Common.{◌≡◌, ℕ, ◌≤◌, Bool, true, false, ltb, List, [], ◌∷◌, ◌++◌, length, get_or, take, drop, Some, None, refl, ap, inl, inr, arith}
-use Rattle.std.specs.List.{AllByRecursion}
+use Rattle.std.proofs.Common.{◌≡◌, ℕ, ◌≤◌, Bool, true, false, ltb, List, [], ◌∷◌, length, get_or, take, drop, None, refl, ap, inl, inr, arith}
+use Rattle.std.specs.List.{AllByRecursion, find}
 use Rattle.std.proofs.lemmas.List.{length-take-le, length-drop, take_all}
 use Rattle.std.proofs.lemmas.Bool.{cases_Bool, le-ltb, ltb-false, not-false, not_from_true, or_from, or_parts}
 use Rattle.record.specs.Bytes.{zeros?}
-use Rattle.record.specs.Faults.{offends, field_faults, later_faults, faults, first_of, fault_of}
-use Rattle.record.specs.declared.faults.RecordFault.{RecordFault}
+use Rattle.record.specs.Faults.{offends, faults, fault_of}
 use Rattle.record.specs.Lawful.{Lawful}
 use Rattle.record.specs.Layout.{decoded}
 use Rattle.record.proofs.Numbers.{Byte, below24, below32}
 use Rattle.record.proofs.Patterns.{finite_value}
 
 module _ {X : Type 0} (test : X → Bool) where
-  none_first : (xs : List X) → AllByRecursion (λ x. test x ≡ false) xs → first_of test xs ≡ None
+  none_first : (xs : List X) → AllByRecursion (λ x. test x ≡ false) xs → find test xs ≡ None
   none_first [] h = refl
   none_first (x ∷ xs) h = rw h.0 (none_first xs h.1)
 
-  first_none : (xs : List X) → first_of test xs ≡ None → AllByRecursion (λ x. test x ≡ false) xs
+  first_none : (xs : List X) → find test xs ≡ None → AllByRecursion (λ x. test x ≡ false) xs
   first_none [] e = tt
   first_none (x ∷ xs) e = elim (cases_Bool (test x)) [
     | inl t ↦ absurd (let z : ◌≡◌ {A = ℕ} 0 1 = let h = rw t at e in cc in omega arith)
     | inr t ↦ (t, first_none xs (rw t at e))
   ]
-
-  first_more : (xs ys : List X) → first_of test xs ≡ None → first_of test (xs ++ ys) ≡ first_of test ys
-  first_more xs ys e = go xs (first_none xs e)
-    where
-      go : (xs : List X) → AllByRecursion (λ x. test x ≡ false) xs → first_of test (xs ++ ys) ≡ first_of test ys
-      go [] h = refl
-      go (x ∷ xs) h = rw h.0 (go xs h.1)
-
-  first_front : (x : X) (xs ys : List X) → first_of test xs ≡ Some x → first_of test (xs ++ ys) ≡ Some x
-  first_front x [] ys e = let z : ◌≡◌ {A = ℕ} 0 1 = cc in absurd (omega arith)
-  first_front x (y ∷ xs) ys e = elim (cases_Bool (test y)) [
-    | inl t ↦ rw t (rw t at e)
-    | inr t ↦ rw t (first_front x xs ys (rw t at e))
-  ]
-
--- a fault of the fields before the reading is the first one, and without one the first of the others is
-pub fields_first : (bytes : List ℕ) (f : RecordFault) → first_of (offends bytes) field_faults ≡ Some f → fault_of bytes ≡ Some f
-fields_first bytes f e = first_front (offends bytes) f field_faults later_faults e
-
-pub later_first : (bytes : List ℕ) → first_of (offends bytes) field_faults ≡ None → fault_of bytes ≡ first_of (offends bytes) later_faults
-later_first bytes e = first_more (offends bytes) field_faults later_faults e
 
 -- the seven bytes from 73 on are all the rest
 pub reserved_read : (bytes : List ℕ) → length bytes ≡ 80 → zeros? (take 7 (drop 73 bytes)) ≡ zeros? (drop 73 bytes)

@@ -1,11 +1,11 @@
 -- The first fault is the one of the smallest offset.
 use Rattle.std.proofs.Common.{◌≡◌, ℕ, ◌<◌, Bool, true, false, List, [], ◌∷◌, Some, ap, subst, inl, inr, arith}
-use Rattle.std.specs.List.{AllByRecursion}
+use Rattle.std.specs.List.{AllByRecursion, find}
 use Rattle.std.proofs.ByRecursion.{All-weaker}
 use Rattle.std.proofs.lemmas.Bool.{cases_Bool}
 use Rattle.record.specs.declared.faults.RecordFault.{RecordFault}
 use Rattle.record.specs.declared.faults.RecordFault.TheVariants.{PollingAddress, Preambles, Flags, Setpoint, Ceiling, FullScale, Flow, Temperature, Reserved}
-use Rattle.record.specs.Faults.{offset_of, offends, faults, first_of, fault_of, FirstFault}
+use Rattle.record.specs.Faults.{offset_of, offends, faults, fault_of, FirstFault}
 
 -- ---- a list in the order of a key
 
@@ -19,7 +19,7 @@ module _ {X : Type 0} (key : X → ℕ) where
   linked_all x (y ∷ ys) h = (h.0, All-weaker (λ z. key y < key z) (λ z. key x < key z) (λ z l. let k = h.0 in omega arith) ys (linked_all y ys h.1))
 
   module _ (test : X → Bool) where
-    first_passes : (x : X) (xs : List X) → first_of test xs ≡ Some x → test x ≡ true
+    first_passes : (x : X) (xs : List X) → find test xs ≡ Some x → test x ≡ true
     first_passes x [] e = let z : ◌≡◌ {A = ℕ} 0 1 = cc in absurd (omega arith)
     first_passes x (y ∷ xs) e = elim (cases_Bool (test y)) [
       | inl t ↦ let s : y ≡ x = let h = rw t at e in cc in subst (λ (z : X). test z ≡ true) s t
@@ -27,13 +27,13 @@ module _ {X : Type 0} (key : X → ℕ) where
     ]
 
     -- a head that passes is the first that passes
-    passed : (x y : X) (ys : List X) → test y ≡ true → first_of test (y ∷ ys) ≡ Some x → key y < key x → ⊥
+    passed : (x y : X) (ys : List X) → test y ≡ true → find test (y ∷ ys) ≡ Some x → key y < key x → ⊥
     passed x y ys t e l =
         let s : y ≡ x = let h = rw t at e in cc in
         let k : key y ≡ key x = ap key s in
         omega arith
 
-    none_before : (x y : X) (ys : List X) → Linked y ys → first_of test (y ∷ ys) ≡ Some x → AllByRecursion (λ z. key z < key x → test z ≡ false) (y ∷ ys)
+    none_before : (x y : X) (ys : List X) → Linked y ys → find test (y ∷ ys) ≡ Some x → AllByRecursion (λ z. key z < key x → test z ≡ false) (y ∷ ys)
     none_before x y [] h e = elim (cases_Bool (test y)) [
       | inl t ↦ (λ l. absurd (passed x y [] t e l), tt)
       | inr t ↦ (λ _. t, tt)

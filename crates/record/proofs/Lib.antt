@@ -3,6 +3,5 @@ mod Places
 pub mod Patterns
 pub mod Faultless
 pub mod Inverse
-pub mod LawfulTest
 pub mod FirstFaults
 pub mod Updates

@@ -27,7 +27,3 @@ zeros_are [] h = refl
 zeros_are (x ∷ xs) h =
     let p = and_parts (eqb x 0) (zeros? xs) h in
     rw (eqb-true x 0 p.0) (ap (λ (t : List ℕ). 0 ∷ t) (zeros_are xs p.1))
-
--- what is written of a list, with one part more
-pub part_more : {x y so part part' : List ℕ} → x ≡ so → y ≡ x ++ part → part ≡ part' → y ≡ so ++ part'
-part_more h f e = rw (f, h, e) refl

@@ -1,5 +1,6 @@
 -- Numbers in bytes, the most significant byte first.
-use Rattle.std.specs.Prelude.{ℕ, ◌+◌, ◌*◌, ◌/◌, ◌%◌, ◌^◌, Bool, true, ◌&&◌, List, [], ◌∷◌, ◌==◌, slice_index}
+use Rattle.std.specs.Prelude.{ℕ, ◌+◌, ◌*◌, ◌/◌, ◌%◌, ◌^◌, Bool, List, [], ◌∷◌, ◌==◌, slice_index}
+use Rattle.std.specs.List.{list_all}
 
 -- The low 24 bits of a number, in three bytes.
 abbrev pub bytes24 : ℕ → List ℕ
@@ -23,5 +24,4 @@ bit? n index = n / 2 ^ index % 2 == 1
 
 -- Whether all bytes are 0.
 abbrev pub zeros? : List ℕ → Bool
-zeros? [] = true
-zeros? (b ∷ bytes) = b == 0 && zeros? bytes
+zeros? = list_all (λ b. b == 0)

@@ -1,5 +1,5 @@
 -- What can be wrong with the 80 bytes of a record.
-use Rattle.std.specs.Prelude.{◌≡◌, ℕ, ◌<◌, Bool, true, false, cond, not, ◌||◌, List, [], ◌∷◌, ◌++◌, drop, Some, None, Option, nat_lt, slice_index}
+use Rattle.std.specs.Prelude.{◌≡◌, ℕ, ◌<◌, Bool, true, false, not, ◌||◌, List, [], ◌∷◌, ◌++◌, drop, find, Option, nat_lt, slice_index}
 use Rattle.std.specs.Float.{float_is_finite}
 use Rattle.setpoint.specs.Lawful.{is_lawful}
 use Rattle.setpoint.specs.Units.{is_full_scale}
@@ -42,14 +42,9 @@ offends bytes Flow = not (float_is_finite (value_of (number32 bytes 20)))
 offends bytes Temperature = not (float_is_finite (value_of (number32 bytes 24)))
 offends bytes Reserved = not (zeros? (drop 73 bytes))
 
--- The first of a list that passes a test.
-abbrev pub first_of : {X : Type 0} → (X → Bool) → List X → Option X
-first_of test [] = None
-first_of test (x ∷ xs) = cond (test x) (Some x) (first_of test xs)
-
 -- The first field that is out of range; none where the bytes are a lawful record's.
 abbrev pub fault_of : List ℕ → Option RecordFault
-fault_of bytes = first_of (offends bytes) faults
+fault_of bytes = find (offends bytes) faults
 
 -- The fault's field is out of range, and every field of a smaller offset is in range.
 pub record FirstFault (bytes : List ℕ) (fault : RecordFault) : Type 0 where

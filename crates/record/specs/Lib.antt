@@ -4,3 +4,4 @@ pub mod Layout
 pub mod Faults
 pub mod Lawful
 pub mod Inverse
+pub mod Identities

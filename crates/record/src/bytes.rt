@@ -1,10 +1,9 @@
 // Numbers in bytes, the most significant byte first.
-ghost use Rattle.std.specs.Prelude.{◌≡◌, ◌+◌, ◌<◌, ◌≤◌, ◌++◌, length, take};
-ghost use Rattle.refusals.specs.Filling.{placed};
+ghost use Rattle.std.specs.Prelude.{◌≡◌, ◌+◌, ◌<◌, ◌≤◌, length};
 ghost use Rattle.record.specs.Bytes.{bytes24, number24, number32, bit?, zeros?};
 
 // The low 24 bits of a number.
-pub(crate) fn u24_to_be_bytes(n: u32) -> [u8; 3]
+pub fn u24_to_be_bytes(n: u32) -> [u8; 3]
     ensures { result ≡ bytes24 n }
 {
     let [_, high, middle, low] = n.to_be_bytes();
@@ -36,22 +35,5 @@ pub(crate) fn bit(byte: u8, index: u8) -> bool
 pub(crate) fn all_zero(bytes: &[u8]) -> bool
     ensures { result ≡ zeros? bytes.now }
 {
-    for byte in bytes {
-        if *byte != 0 {
-            return false;
-        }
-    }
-    true
-}
-
-// Writes `part` from `at` on and answers where the next part goes.
-pub(crate) fn put(out: &mut [u8], at: usize, part: &[u8]) -> usize
-    requires { at + length part.now ≤ length out.old }
-    ensures next { result ≡ at + length part.now }
-    ensures after { out.new ≡ placed at part.now out.old }
-    ensures front { take result out.new ≡ take at out.old ++ part.now }
-{
-    let end = at + part.len();
-    out[at..end].copy_from_slice(part);
-    end
+    bytes.iter().all(|byte| *byte == 0)
 }

@@ -3,7 +3,7 @@ ghost use Rattle.record.specs.Inverse.{ReadsBack};
 ghost use Rattle.record.specs.Lawful.{Lawful};
 ghost use Rattle.record.specs.Layout.{flags_of, field_bytes, reading_bytes, encoded};
 
-use crate::bytes::{put, u24_to_be_bytes};
+use crate::bytes::u24_to_be_bytes;
 use crate::layout::*;
 use crate::{Fields, Reading, Record, pattern_of};
 
@@ -13,26 +13,43 @@ pub fn encode(record: &Record) -> [u8; RECORD_LENGTH]
     ensures back { Lawful «record».now → ReadsBack «record».now result }
 {
     let mut bytes = [0; RECORD_LENGTH];
-    let end = put(&mut bytes, 0, &field_bytes(record.fields));
-    let end = put(&mut bytes, end, &reading_bytes(record.reading));
-    let end = put(&mut bytes, end, &record.text);
-    put(&mut bytes, end, &[0; RESERVED_LENGTH]);
+    bytes[0..FLOW_AT].copy_from_slice(&field_bytes(record.fields));
+    bytes[FLOW_AT..TEXT_AT].copy_from_slice(&reading_bytes(record.reading));
+    bytes[TEXT_AT..RESERVED_AT].copy_from_slice(&record.text);
     bytes
 }
 
 fn field_bytes(fields: Fields) -> [u8; FIELDS_LENGTH]
     ensures { result ≡ field_bytes fields }
 {
-    let mut bytes = [0; FIELDS_LENGTH];
-    let end = put(&mut bytes, 0, &[fields.device_type]);
-    let end = put(&mut bytes, end, &u24_to_be_bytes(fields.identification));
-    let end = put(&mut bytes, end, &[fields.polling_address, fields.preambles]);
-    let end = put(&mut bytes, end, &u24_to_be_bytes(fields.assembly_number));
-    let end = put(&mut bytes, end, &[flags(fields)]);
-    let end = put(&mut bytes, end, &fields.setpoint.to_be_bytes());
-    let end = put(&mut bytes, end, &[fields.ceiling, fields.flow_unit]);
-    put(&mut bytes, end, &fields.full_scale.to_be_bytes());
-    bytes
+    let [i, j, k] = u24_to_be_bytes(fields.identification);
+    let [a, b, c] = u24_to_be_bytes(fields.assembly_number);
+    let [s, t, u, v] = fields.setpoint.to_be_bytes();
+    let [w, x, y, z] = fields.full_scale.to_be_bytes();
+    let (address, preambles) = (fields.polling_address, fields.preambles);
+    let (ceiling, unit) = (fields.ceiling, fields.flow_unit);
+    [
+        fields.device_type,
+        i,
+        j,
+        k,
+        address,
+        preambles,
+        a,
+        b,
+        c,
+        flags(fields),
+        s,
+        t,
+        u,
+        v,
+        ceiling,
+        unit,
+        w,
+        x,
+        y,
+        z,
+    ]
 }
 
 fn flags(fields: Fields) -> u8
@@ -44,12 +61,7 @@ fn flags(fields: Fields) -> u8
 fn reading_bytes(reading: Reading) -> [u8; READING_LENGTH]
     ensures { result ≡ reading_bytes reading }
 {
-    let mut bytes = [0; READING_LENGTH];
-    let end = put(&mut bytes, 0, &pattern_of(reading.flow).to_be_bytes());
-    put(
-        &mut bytes,
-        end,
-        &pattern_of(reading.temperature).to_be_bytes(),
-    );
-    bytes
+    let [a, b, c, d] = pattern_of(reading.flow).to_be_bytes();
+    let [e, f, g, h] = pattern_of(reading.temperature).to_be_bytes();
+    [a, b, c, d, e, f, g, h]
 }

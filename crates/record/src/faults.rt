@@ -1,5 +1,5 @@
 ghost use Rattle.std.specs.Prelude.{◌≡◌, Some};
-ghost use Rattle.record.specs.Faults.{offset_of, field_faults, offends, first_of, fault_of};
+ghost use Rattle.record.specs.Faults.{offset_of, offends, fault_of};
 
 use crate::bytes::{all_zero, u32_at};
 use crate::layout::*;
@@ -39,42 +39,39 @@ impl fmt::Display for RecordFault {
 
 impl Error for RecordFault {}
 
-// The first field that is out of range.
+// The fields that can be out of range, in the order of their offsets.
+const FAULTS: [RecordFault; 9] = [
+    RecordFault::PollingAddress,
+    RecordFault::Preambles,
+    RecordFault::Flags,
+    RecordFault::Setpoint,
+    RecordFault::Ceiling,
+    RecordFault::FullScale,
+    RecordFault::Flow,
+    RecordFault::Temperature,
+    RecordFault::Reserved,
+];
+
+// The first field that is out of range: found, and made an error by those who ask for a lawful record.
 pub fn fault_in(bytes: &[u8; RECORD_LENGTH]) -> Option<RecordFault>
     ensures { result ≡ fault_of bytes.now }
 {
-    if let Some(fault) = fields_fault(bytes) {
-        Some(fault)
-    } else if !value_of(u32_at(bytes, FLOW_AT)).is_finite() {
-        Some(RecordFault::Flow)
-    } else if !value_of(u32_at(bytes, TEMPERATURE_AT)).is_finite() {
-        Some(RecordFault::Temperature)
-    } else if !all_zero(&bytes[RESERVED_AT..RECORD_LENGTH]) {
-        Some(RecordFault::Reserved)
-    } else {
-        None
-    }
+    FAULTS.iter().copied().find(|fault| offends(bytes, *fault))
 }
 
-// The first field before the reading that is out of range.
-fn fields_fault(bytes: &[u8; RECORD_LENGTH]) -> Option<RecordFault>
-    ensures { result ≡ first_of (offends bytes.now) field_faults }
+// Whether the field that a fault names is out of range.
+fn offends(bytes: &[u8; RECORD_LENGTH], fault: RecordFault) -> bool
+    ensures { result ≡ offends bytes.now fault }
 {
-    let preambles = bytes[PREAMBLES_AT];
-    let full_scale = u32_at(bytes, FULL_SCALE_AT);
-    if bytes[POLLING_ADDRESS_AT] > MAX_POLLING_ADDRESS {
-        Some(RecordFault::PollingAddress)
-    } else if preambles < MIN_PREAMBLES || preambles > MAX_PREAMBLES {
-        Some(RecordFault::Preambles)
-    } else if bytes[FLAGS_AT] > MAX_FLAGS {
-        Some(RecordFault::Flags)
-    } else if !setpoint::lawful(u32_at(bytes, SETPOINT_AT)) {
-        Some(RecordFault::Setpoint)
-    } else if bytes[CEILING_AT] > MAX_CEILING {
-        Some(RecordFault::Ceiling)
-    } else if full_scale < MIN_FULL_SCALE || full_scale > MAX_FULL_SCALE {
-        Some(RecordFault::FullScale)
-    } else {
-        None
+    match fault {
+        RecordFault::PollingAddress => bytes[POLLING_ADDRESS_AT] > MAX_POLLING_ADDRESS,
+        RecordFault::Preambles => !matches!(bytes[PREAMBLES_AT], MIN_PREAMBLES..=MAX_PREAMBLES),
+        RecordFault::Flags => bytes[FLAGS_AT] > MAX_FLAGS,
+        RecordFault::Setpoint => !setpoint::lawful(u32_at(bytes, SETPOINT_AT)),
+        RecordFault::Ceiling => bytes[CEILING_AT] > MAX_CEILING,
+        RecordFault::FullScale => !setpoint::is_full_scale(u32_at(bytes, FULL_SCALE_AT)),
+        RecordFault::Flow => !value_of(u32_at(bytes, FLOW_AT)).is_finite(),
+        RecordFault::Temperature => !value_of(u32_at(bytes, TEMPERATURE_AT)).is_finite(),
+        RecordFault::Reserved => !all_zero(&bytes[RESERVED_AT..]),
     }
 }

@@ -8,8 +8,6 @@ pub const FIELDS_LENGTH: usize = 20;
 
 pub const READING_LENGTH: usize = 8;
 
-pub const RESERVED_LENGTH: usize = 7;
-
 pub const DEVICE_TYPE_AT: usize = 0;
 
 pub const IDENTIFICATION_AT: usize = 1;
@@ -53,6 +51,5 @@ pub const MAX_PREAMBLES: u8 = 15;
 
 pub const MAX_CEILING: u8 = 100;
 
-pub const MIN_FULL_SCALE: u32 = 1;
-
-pub const MAX_FULL_SCALE: u32 = 1_000_000;
+// Identification and assembly numbers have 24 bits.
+pub const MAX_U24: u32 = 0xFF_FFFF;

@@ -2,6 +2,7 @@
 #![tactic(auto)]
 
 ghost use Rattle.std.specs.Prelude.{◌≡◌, Decides};
+ghost use Rattle.record.specs.Identities.{identity_of};
 ghost use Rattle.record.specs.Lawful.{in_range, is_lawful, LawfulFields, Lawful};
 
 mod bytes;
@@ -11,17 +12,15 @@ mod faults;
 mod layout;
 mod readings;
 
+pub use bytes::u24_to_be_bytes;
 pub use decoder::{decode, record_at};
 pub use encoder::encode;
 pub use faults::{RecordFault, fault_in};
-use layout::{
-    MAX_CEILING, MAX_FULL_SCALE, MAX_POLLING_ADDRESS, MAX_PREAMBLES, MIN_FULL_SCALE, MIN_PREAMBLES,
+use layout::MAX_CEILING;
+pub use layout::{
+    MAX_POLLING_ADDRESS, MAX_PREAMBLES, MAX_U24, MIN_PREAMBLES, RECORD_LENGTH, TEXT_LENGTH,
 };
-pub use layout::{RECORD_LENGTH, TEXT_LENGTH};
 pub use readings::{Reading, pattern_of, value_of};
-
-// Identification and assembly numbers are below this: they have 24 bits.
-const U24_LIMIT: u32 = 0x100_0000;
 
 // What a record holds beside its reading and its text.
 #[derive(Clone, Copy)]
@@ -42,6 +41,24 @@ pub struct Fields {
     pub flow_unit: u8,
     // In mL/min.
     pub full_scale: u32,
+}
+
+// What tells channels apart.
+#[derive(Clone, Copy, PartialEq, Eq, Debug)]
+pub struct Identity {
+    pub device_type: u8,
+    pub identification: u32,
+}
+
+impl Fields {
+    pub fn identity(self) -> Identity
+        ensures { result ≡ identity_of self }
+    {
+        Identity {
+            device_type: self.device_type,
+            identification: self.identification,
+        }
+    }
 }
 
 // A channel's record, lawful or not.
@@ -65,15 +82,13 @@ fn in_range(fields: Fields) -> bool
     ensures value { result ≡ in_range fields }
     ensures means { Decides result (LawfulFields fields) }
 {
-    fields.identification < U24_LIMIT
+    fields.identification <= MAX_U24
         && fields.polling_address <= MAX_POLLING_ADDRESS
-        && MIN_PREAMBLES <= fields.preambles
-        && fields.preambles <= MAX_PREAMBLES
-        && fields.assembly_number < U24_LIMIT
+        && matches!(fields.preambles, MIN_PREAMBLES..=MAX_PREAMBLES)
+        && fields.assembly_number <= MAX_U24
         && setpoint::lawful(fields.setpoint)
         && fields.ceiling <= MAX_CEILING
-        && MIN_FULL_SCALE <= fields.full_scale
-        && fields.full_scale <= MAX_FULL_SCALE
+        && setpoint::is_full_scale(fields.full_scale)
 }
 
 #[cfg(test)]

@@ -1,3 +1,1 @@
-mod Appending
-mod Digits
 mod Cuts

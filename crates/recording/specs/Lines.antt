@@ -1,5 +1,5 @@
 -- The line of text of an outcome. A line feed, 10, ends each line.
-use Rattle.std.specs.Prelude.{◌≡◌, ℕ, Bool, true, false, List, [], ◌∷◌, ◌++◌, codes, decimal}
+use Rattle.std.specs.Prelude.{ℕ, List, [], ◌∷◌, ◌++◌, codes, decimal}
 use Rattle.hexdigits.specs.Hex.{hex_of}
 use Rattle.runs.specs.Channel.{channel}
 use Rattle.runs.specs.Traces.{Result, taken, refused, silent, answered}
@@ -15,8 +15,3 @@ line_of taken = []
 line_of (refused number) = refusal_line number
 line_of silent = codes "silent" ++ 10 ∷ []
 line_of (answered k bytes) = answer_line k bytes
-
--- bytes written after what stood there: all of them, or some where memory was wanting
-abbrev pub Written : Bool → List ℕ → List ℕ → List ℕ → Type 0
-Written true before bytes after = after ≡ before ++ bytes
-Written false before bytes after = (some : List ℕ) × (after ≡ before ++ some)

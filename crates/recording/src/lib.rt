@@ -8,7 +8,7 @@ mod printer;
 
 pub use decoder::{EVENT_LENGTH, decode_event};
 pub use pending::Pending;
-pub use printer::{push_line, push_refusal};
+pub use printer::{Line, push_line, push_refusal};
 
 #[cfg(test)]
 mod tests {
@@ -51,10 +51,10 @@ mod tests {
         let mut lines = Vec::new(rt.alloc());
         push_line(
             &mut lines,
-            Outcome::Answered {
+            Ok(Outcome::Answered {
                 channel: 0,
                 bytes: &bytes,
-            },
+            }),
         )?;
         assert_eq!(rt;
             lines.as_slice(),

@@ -6,17 +6,18 @@
 // Bytes are capital hexadecimal, '-' where there are none.
 #![tactic(auto)]
 
-use anyhow::anyhow;
-use rack::{FileFault, Rack, blank_record};
-use record::RECORD_LENGTH;
+use anyhow::{Context, anyhow};
+use rack::Rack;
 use shelf::Shelf;
 use single::Single;
+use tables::{Byte, Checked, Filled};
 use words::to_bytes;
 
 fn main(rt: HostRuntime) -> anyhow::Result<()> {
     run(&rt)
 }
 
+// Each program has this loop: a function of a library that reads a program's input could promise nothing of its result.
 fn run(rt: &HostRuntime) -> anyhow::Result<()> {
     for line in rt.lines(rt.alloc()) {
         let line = line?;
@@ -27,60 +28,24 @@ fn run(rt: &HostRuntime) -> anyhow::Result<()> {
 }
 
 fn call(rt: &HostRuntime, words: &[&str]) -> anyhow::Result<()> {
-    match words {
-        ["record", bytes] => check_record(rt, bytes),
-        ["shelf", bytes] => fill_shelf(rt, bytes),
-        ["single", bytes] => fill_single(rt, bytes),
-        ["text", row, place] => text_byte(rt, row, place),
-        _ => Err(anyhow!("a line with no call")),
-    }
-}
-
-fn check_record(rt: &HostRuntime, word: &str) -> anyhow::Result<()> {
-    let bytes = to_bytes(rt.alloc(), word)?;
-    let row = <[u8; RECORD_LENGTH]>::try_from(bytes.as_slice())?;
-    match record::decode(&row, &mut blank_record()) {
-        Ok(()) => println!(rt; "lawful")?,
-        Err(fault) => println!(rt; "refused 103 {}", fault.offset())?,
-    }
-    Ok(())
-}
-
-fn fill_shelf(rt: &HostRuntime, word: &str) -> anyhow::Result<()> {
-    let file = to_bytes(rt.alloc(), word)?;
-    let mut shelf = Shelf::blank();
-    let answer = shelf.fill(file.as_slice());
-    filled(rt, answer, shelf.count())
-}
-
-fn fill_single(rt: &HostRuntime, word: &str) -> anyhow::Result<()> {
-    let file = to_bytes(rt.alloc(), word)?;
-    let mut single = Single::blank();
-    let answer = single.fill(file.as_slice());
-    filled(rt, answer, single.count())
-}
-
-fn filled(rt: &HostRuntime, answer: Result<(), FileFault>, count: u8) -> anyhow::Result<()> {
-    match answer {
-        Ok(()) => println!(rt; "{count} records")?,
-        Err(FileFault::Count) => println!(rt; "refused 104")?,
-        Err(FileFault::Record(error)) => println!(rt;
-            "refused 103 {} {}",
-            error.number,
-            error.fault.offset()
-        )?,
-    }
-    Ok(())
-}
-
-fn text_byte(rt: &HostRuntime, row: &str, place: &str) -> anyhow::Result<()> {
-    let place = place.parse::<u8>()?;
-    let file = to_bytes(rt.alloc(), row)?;
-    let mut single = Single::blank();
-    single.fill(file.as_slice())?;
-    match single.text_byte(0, place) {
-        Ok(byte) => println!(rt; "{byte:02X}")?,
-        Err(refusal) => println!(rt; "refused {}", refusal.number())?,
+    let [call, bytes, rest @ ..] = words else {
+        return Err(anyhow!("a line with no call"));
+    };
+    let bytes = to_bytes(rt.alloc(), bytes)?;
+    let bytes = bytes.as_slice();
+    match (*call, rest) {
+        ("record", []) => {
+            let checked = Checked::of(bytes).context("a record of another length")?;
+            println!(rt; "{checked}")?
+        }
+        ("shelf", []) => println!(rt; "{}", Filled::by(&mut Shelf::blank(), bytes))?,
+        ("single", []) => println!(rt; "{}", Filled::by(&mut Single::blank(), bytes))?,
+        ("text", [place]) => {
+            let mut single = Single::blank();
+            single.fill(bytes)?;
+            println!(rt; "{}", Byte(single.text_byte(0, place.parse()?)))?
+        }
+        _ => return Err(anyhow!("a line with no call")),
     }
     Ok(())
 }

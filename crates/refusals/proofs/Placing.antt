@@ -1,14 +1,7 @@
 -- Bytes written into a buffer one part after another.
-use Rattle.std.proofs.Common.{◌≡◌, ℕ, ◌+◌, ◌-◌, ◌≤◌, List, ◌++◌, length, take, drop, sym, refl, ap, ◌∙◌, append_assoc, arith, length-append}
-use borrow.Rule.Slice.PartMut.{put_mid}
+use Rattle.std.proofs.Common.{◌≡◌, ℕ, ◌+◌, ◌≤◌, List, ◌++◌, length, take, drop, sym, refl, ap, ◌∙◌, append_assoc, arith, length-append}
 use Rattle.std.proofs.lemmas.List.{take_at, drop_at, drop-drop, length-take-le}
 use Rattle.refusals.specs.Filling.{placed}
-
--- what a copy into a part of the buffer leaves
-pub placed_by_copy : (at : ℕ) (buffer part : List ℕ) {now : List ℕ} → now ≡ part → put_mid at (at + length part - at) buffer now ≡ placed at part buffer
-placed_by_copy at buffer part e =
-    let k : at + length part - at ≡ length part = omega arith in
-    rw (e, k, drop-drop) (sym (append_assoc (take at buffer) part (drop (at + length part) buffer)))
 
 module _ (at : ℕ) (p buffer : List ℕ) (room : at + length p ≤ length buffer) where
   front : length (take at buffer ++ p) ≡ at + length p

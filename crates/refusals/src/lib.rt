@@ -7,48 +7,36 @@ ghost use Rattle.refusals.specs.Refusals.{number_of, words_of};
 use std::error::Error;
 use std::fmt;
 
-// Why a call was refused.
+// Why a call was refused, with the number by which programs and documents name the refusal.
 #[derive(Clone, Copy, PartialEq, Eq, Debug)]
 pub enum Refusal {
     // There is no such channel.
-    NoChannel,
+    NoChannel = 101,
     // The lent buffer is shorter than what would be written.
-    ShortBuffer,
+    ShortBuffer = 102,
     // A record of a file has a field out of range.
-    BadRecord,
+    BadRecord = 103,
     // A file is not of 1 to 15 records, or a rack tells more than 15.
-    NumberOfRecords,
+    NumberOfRecords = 104,
     // Two channels have the same device type and identification number.
-    SameIdentity,
+    SameIdentity = 105,
     // The shares of the channels do not fit the supply.
-    OverSupply,
+    OverSupply = 106,
     // The supply is larger than any header gives.
-    Supply,
+    Supply = 107,
     // A flow or a temperature is not finite.
-    Reading,
+    Reading = 108,
     // A character has marks that there are not.
-    Marks,
+    Marks = 109,
     // The input is not in the form that the call asks for.
-    OutOfForm,
+    OutOfForm = 110,
 }
 
 impl Refusal {
-    // The number by which programs and documents name the refusal.
     pub fn number(self) -> u8
         ensures { result ≡ number_of self }
     {
-        match self {
-            Refusal::NoChannel => 101,
-            Refusal::ShortBuffer => 102,
-            Refusal::BadRecord => 103,
-            Refusal::NumberOfRecords => 104,
-            Refusal::SameIdentity => 105,
-            Refusal::OverSupply => 106,
-            Refusal::Supply => 107,
-            Refusal::Reading => 108,
-            Refusal::Marks => 109,
-            Refusal::OutOfForm => 110,
-        }
+        self as u8
     }
 
     pub fn words(self) -> &'static str

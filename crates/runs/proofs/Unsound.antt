@@ -1,5 +1,5 @@
 -- A sound transmission with one character damaged is not sound, also where the damage moves the start.
-use Rattle.std.proofs.Common.{◌≡◌, ℕ, zero, suc, ◌<◌, ◌≤◌, true, eqb, leb, ◌⊎◌, List, [], ◌∷◌, map, length, get_or, drop, set, Some, Ok, Err, fold, Result, sym, refl, ap, ◌∙◌, subst, inl, inr, le_of_suc-le-suc, arith}
+use Rattle.std.proofs.Common.{◌≡◌, ℕ, zero, suc, ◌<◌, ◌≤◌, true, eqb, leb, ◌⊎◌, List, [], ◌∷◌, map, length, get_or, drop, set, Some, Ok, Err, fold, Result, sym, refl, ap, ◌∙◌, subst, inl, inr, le_of_suc-le-suc, add_comm, add-one, arith}
 use lib.Bits.{bit_xor, bit_or, xor_comm, xor_assoc, xor_self, xor_zero_l, xor_zero_r, or_add_and, and_le_l, and_le_r}
 use lib.ListN.{length-map}
 use Rattle.std.specs.Result.{result_ok}
@@ -41,7 +41,7 @@ abbrev Seen : ℕ → Type 0
 Seen x = ((x ≡ 255) × ((s : List ℕ) → span_of (x ∷ s) ≡ span_of s)) ⊎ ((s : List ℕ) → span_of (x ∷ s) ≡ x ∷ s)
 
 seen : (x : ℕ) → Seen x
-seen x = elim (cases_eq x 255) [ inl p ↦ inl (p, λ s. rw p refl) | inr n ↦ inr (λ s. rw (ne_eqb x 255 n) refl) ]
+seen x = elim (cases_eq x 255) [ inl p ↦ inl (p, λ s. rw (p, add_comm 1, add-one) refl) | inr n ↦ inr (λ s. rw (ne_eqb x 255 n) refl) ]
 
 -- the preambles add nothing or 255 to the check
 skipped : (s : List ℕ) → check_of (span_of s) ≡ 0 → (check_of s ≡ 0) ⊎ (check_of s ≡ 255)

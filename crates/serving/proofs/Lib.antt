@@ -1,6 +1,6 @@
 pub mod Texts
-pub mod Scanning
 pub mod Records
-pub mod Sole
 pub mod Writes
+pub mod Searching
+pub mod Sole
 pub mod Served

@@ -1,25 +1,42 @@
--- Text bytes of a channel, one after another.
-use Rattle.std.proofs.Common.{◌≡◌, ℕ, ◌+◌, ◌<◌, List, length, get_or, take, set, Some, Ok, Err, sym, refl, ◌∙◌, arith}
+-- The text bytes of a channel.
+use Rattle.std.proofs.Common.{◌≡◌, ℕ, zero, suc, ◌+◌, ◌<◌, ◌≤◌, List, get_or, take, Some, Ok, Err, Result, sym, refl, ◌∙◌, subst, inl, inr, arith, length-take}
+use denote.Param.Members.{Mut}
+use Rattle.std.specs.Array.{IsFromFnResultFrom, IsFromFnResult}
+use Rattle.std.specs.Fn.{Called}
 use Rattle.std.specs.List.{AllByRecursion}
-use Rattle.std.proofs.lemmas.List.{take_more, take_more_set}
-use Rattle.std.proofs.lemmas.Bool.{le-leb}
+use Rattle.std.specs.Result.{result_unwrap_or}
+use Rattle.std.proofs.lemmas.Bool.{cases_lt, le-leb}
+use Rattle.std.proofs.lemmas.Grind.{same_number_lists}
+use Rattle.std.proofs.lemmas.List.{get_or-take}
 use Rattle.record.specs.Lawful.{Lawful}
 use Rattle.record.specs.declared.Record.{Record}
 use Rattle.rack.specs.Meaning.{channel_of, text_byte}
+use Rattle.rack.specs.Refusals.{numbered}
+use Rattle.rack.specs.declared.refusal.RackRefusal.{RackRefusal}
 use Rattle.rack.proofs.Meaning.{channel_lawful}
 
-module _ (records : List Record) (channel : ℕ) (lawful : AllByRecursion Lawful records) (r : Record) (is : channel_of records channel ≡ Some r) (place : ℕ) (low : place < 45) where
-  byte_at : text_byte records channel place ≡ Ok (get_or r.text place 0)
-  byte_at = rw (is, le-leb place 44 (omega arith)) refl
+-- where a call at each place below m answers h of the place and leaves the closure as it was, so does each element
+module _ {F : Type 0} (g : Mut F (ℕ × Unit {0}) ℕ) (f : F) (h : ℕ → ℕ) (m : ℕ) (answers : (i y : ℕ) (q : F) → i < m → Called g f (i, tt) y q → (q ≡ f) × (y ≡ h i)) where
+  element_is : (ys : List ℕ) (i n : ℕ) → i + n ≤ m → IsFromFnResultFrom g f ys i n → (k : ℕ) → i ≤ k → k < i + n → get_or ys k 0 ≡ h k
+  element_is ys i zero l made k low high = absurd (omega arith)
+  element_is ys i (suc n) l (q, y, at, call, rest) k low high =
+      let here = answers i y q (omega arith) call in
+      elim (cases_lt i k) [
+        | inl more ↦ element_is ys (i + 1) n (omega arith) (subst (λ p. IsFromFnResultFrom g p ys (i + 1) n) here.0 rest) k (omega arith) (omega arith)
+        | inr none ↦ let same : k ≡ i = omega arith in rw same (at.1 0 ∙ here.1)
+      ]
 
-  -- one byte more
-  pub text_more : (text : List ℕ) (byte : ℕ) → place < length text → Ok byte ≡ text_byte records channel place → take place text ≡ take place r.text
-      → take (place + 1) (set text place byte) ≡ take (place + 1) r.text
-  text_more text byte l e h =
-      let b : byte ≡ get_or r.text place 0 = let k = byte_at in cc in
-      let m = (channel_lawful records channel r lawful is).text in
-      take_more_set text place byte l ∙ (rw (h, b) (sym (take_more r.text place 0 (omega arith))))
+module _ (records : List Record) (channel : ℕ) (lawful : AllByRecursion Lawful records) (r : Record) (is : channel_of records channel ≡ Some r) where
+  byte_at : (place : ℕ) → place < 45 → text_byte records channel place ≡ Ok (get_or r.text place 0)
+  byte_at place low = rw (is, le-leb place 44 (omega arith)) refl
 
-  -- there is one
-  pub text_there : (n : ℕ) → Err n ≡ text_byte records channel place → ⊥
-  text_there n e = let k = byte_at in let z : ◌≡◌ {A = ℕ} 0 1 = cc in omega arith
+  pub byte_is : (place : ℕ) → place < 45 → (a : Result ℕ RackRefusal) → numbered a ≡ text_byte records channel place → result_unwrap_or a 0 ≡ get_or r.text place 0
+  byte_is place low (Ok b) e = let k = byte_at place low in cc
+  byte_is place low (Err x) e = let k = byte_at place low in cc
+
+  pub text_is : {F : Type 0} {g : Mut F (ℕ × Unit {0}) ℕ} {f : F} (text : List ℕ) (n : ℕ) → n ≤ 45 → IsFromFnResult g f text n
+      → ((i y : ℕ) (q : F) → i < n → Called g f (i, tt) y q → (q ≡ f) × (y ≡ get_or r.text i 0)) → text ≡ take n r.text
+  text_is {g = g} {f = f} text n low made answers =
+      let whole = (channel_lawful records channel r lawful is).text in
+      same_number_lists text (take n r.text) (omega (arith, made.long, length-take n r.text))
+      (λ i l. element_is g f (λ k. get_or r.text k 0) n answers text 0 n (omega arith) made.each i (omega arith) (omega (arith, made.long)) ∙ sym (get_or-take n r.text i 0 (omega (arith, made.long))))

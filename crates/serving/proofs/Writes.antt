@@ -1,7 +1,11 @@
 -- Writes to the record of a channel, by the list of records.
 use Rattle.std.proofs.Common.{◌≡◌, ℕ, zero, suc, ◌+◌, ◌-◌, ◌≤◌, Bool, true, false, cond, ◌&&◌, ltb, leb, List, [], ◌∷◌, length, set, is_some, IfSome, Some, None, Ok, Err, Option, Result, sym, refl, ap, ◌∙◌, inl, inr, arith, length-set}
+use Rattle.std.specs.Result.{MatchResult}
 use Rattle.std.proofs.lemmas.Bool.{cases_Bool, and_from, lt-ltb, le-leb, leb-true, cases_lt}
-use Rattle.header.specs.Shares.{fields_share, option_share, share_at, total_share, rack_share}
+use Rattle.std.proofs.lemmas.List.{set-set}
+use Rattle.refusals.specs.Refusals.{numbered}
+use Rattle.refusals.specs.declared.Refusal.{Refusal}
+use Rattle.header.specs.Shares.{option_share, share_at, total_share, rack_share}
 use Rattle.line.specs.Effects.{stores?, stored_by, flagged}
 use Rattle.line.specs.Requests.{Asked}
 use Rattle.rack.specs.Changes.{written, record_after}
@@ -9,35 +13,35 @@ use Rattle.rack.specs.Meaning.{told, record_at, channel_of, written_at, records_
 use Rattle.rack.specs.declared.changes.Change.{Change}
 use Rattle.record.specs.declared.Record.{Record}
 use Rattle.runs.specs.Channel.{channel}
-use Rattle.runs.specs.Shares.{others, total}
+use Rattle.runs.specs.Places.{At, here, there}
+use Rattle.runs.specs.Shares.{others}
+use Rattle.runs.proofs.Places.{at_set, set_same}
+use Rattle.runs.proofs.SetUps.{total_shares}
 
-from_cond : (b : Bool) (o : Option Record) (r : Record) → cond b o None ≡ Some r → (b ≡ true) × (o ≡ Some r)
-from_cond true o r e = (refl, e)
-from_cond false o r e = let z : ◌≡◌ {A = ℕ} 0 1 = cc in absurd (omega arith)
+pub from_cond : {X : Type 0} (b : Bool) (o : Option X) (x : X) → cond b o None ≡ Some x → (b ≡ true) × (o ≡ Some x)
+from_cond true o x e = (refl, e)
+from_cond false o x e = cc
+
+pub record_there : {records : List Record} {k : ℕ} {r : Record} → At records k r → record_at records k ≡ Some r
+record_there here = refl
+record_there (there a) = record_there a
+
+pub at_record : (records : List Record) (k : ℕ) (r : Record) → record_at records k ≡ Some r → At records k r
+at_record [] k r e = cc
+at_record (x ∷ records) zero r e = let p : x ≡ r = cc in rw p here
+at_record (x ∷ records) (suc k) r e = there (at_record records k r e)
 
 pub record_of_channel : (records : List Record) (k : ℕ) (r : Record) → channel_of records k ≡ Some r → record_at records k ≡ Some r
 record_of_channel records k r e = (from_cond (ltb k (told records) && leb k 14) (record_at records k) r e).1
 
 pub set_record : (records : List Record) (k : ℕ) (r : Record) → record_at records k ≡ Some r → set records k r ≡ records
-set_record [] k r e = refl
-set_record (x ∷ records) zero r e = let s : r ≡ x = cc in ap (λ (y : Record). y ∷ records) s
-set_record (x ∷ records) (suc k) r e = ap (λ (ys : List Record). x ∷ ys) (set_record records k r e)
-
-record_set : (records : List Record) (k : ℕ) (r s : Record) → record_at records k ≡ Some r → record_at (set records k s) k ≡ Some s
-record_set [] k r s e = let z : ◌≡◌ {A = ℕ} 0 1 = cc in absurd (omega arith)
-record_set (x ∷ records) zero r s e = refl
-record_set (x ∷ records) (suc k) r s e = record_set records k r s e
-
-pub set_twice : (records : List Record) (k : ℕ) (r s : Record) → set (set records k r) k s ≡ set records k s
-set_twice [] k r s = refl
-set_twice (x ∷ records) zero r s = refl
-set_twice (x ∷ records) (suc k) r s = ap (λ (ys : List Record). x ∷ ys) (set_twice records k r s)
+set_record records k r e = set_same (at_record records k r e)
 
 pub channel_set : (records : List Record) (k : ℕ) (r s : Record) → channel_of records k ≡ Some r → channel_of (set records k s) k ≡ Some s
 channel_set records k r s e =
     let p = from_cond (ltb k (told records) && leb k 14) (record_at records k) r e in
     let t : (ltb k (told (set records k s)) && leb k 14) ≡ true = rw (length-set records k s) p.0 in
-    rw t (record_set records k r s p.1)
+    rw t (record_there (at_set s (at_record records k r p.1)))
 
 after_write : (w : Result Record ℕ) (records : List Record) (k : ℕ) (r : Record) → record_at records k ≡ Some r → records_after w records k ≡ set records k (record_after w r)
 after_write (Ok s) records k r e = refl
@@ -56,16 +60,12 @@ change_stored None a r i s = rw (sym i) refl
 -- two changes, one after another
 pub changed_twice : (records mid after : List Record) (k : ℕ) (r q s : Record) → channel_of records k ≡ Some r → mid ≡ set records k q → (channel_of mid k ≡ Some q → after ≡ set mid k s) → after ≡ set records k s
 changed_twice records mid after k r q s e m f =
-    f (ap (λ (l : List Record). channel_of l k) m ∙ channel_set records k r q e) ∙ (ap (λ (l : List Record). set l k s) m ∙ set_twice records k q s)
+    f (ap (λ (l : List Record). channel_of l k) m ∙ channel_set records k r q e) ∙ (ap (λ (l : List Record). set l k s) m ∙ set-set records k q s)
 
 -- the sum of the shares is the others' and the channel's own
 others_share : (records : List Record) (k : ℕ) → total_share records ≡ others channel records k + option_share (record_at records k)
 others_share [] k = refl
-others_share (r ∷ records) zero = let h = total_is records in omega arith
-  where
-    total_is : (rs : List Record) → total channel rs ≡ total_share rs
-    total_is [] = refl
-    total_is (q ∷ rs) = ap (λ n. fields_share q.fields + n) (total_is rs)
+others_share (r ∷ records) zero = let h = total_shares records in omega arith
 others_share (r ∷ records) (suc k) = let h = others_share records k in omega arith
 
 no_record : (records : List Record) (k : ℕ) → length records ≤ k → record_at records k ≡ None
@@ -86,8 +86,13 @@ channel_record records k few = elim (cases_lt k (length records)) [
 others_rest : (records : List Record) (k n : ℕ) → length records ≤ 15 → n ≡ share_at records k → total_share records ≡ others channel records k + n
 others_rest records k n few e = others_share records k ∙ ap (λ m. others channel records k + m) (ap option_share (sym (channel_record records k few)) ∙ sym e)
 
-pub others_value : (records : List Record) (k sum n : ℕ) → Ok sum ≡ rack_share records → n ≡ share_at records k → sum - n ≡ cond (leb (length records) 15) (others channel records k) 0
-others_value records k sum n e s = elim (cases_Bool (leb (length records) 15)) [
-  | inl b ↦ let t : sum ≡ total_share records = (let h = rw b at e in cc) in let o = others_rest records k n (leb-true (length records) 15 b) s in rw b (omega arith)
-  | inr b ↦ let z : ◌≡◌ {A = ℕ} 0 1 = (let h = rw b at e in cc) in absurd (omega arith)
+pub others_value : (records : List Record) (k n : ℕ) (a : Result ℕ Refusal) → numbered a ≡ rack_share records → MatchResult a (λ sum. n ≡ sum - share_at records k) (λ _. n ≡ 0)
+    → n ≡ cond (leb (length records) 15) (others channel records k) 0
+others_value records k n (Ok sum) e s = elim (cases_Bool (leb (length records) 15)) [
+  | inl b ↦ let t : sum ≡ total_share records = (let h = rw b at e in cc) in let o = others_rest records k (share_at records k) (leb-true (length records) 15 b) refl in rw b (omega arith)
+  | inr b ↦ let h = rw b at e in cc
+]
+others_value records k n (Err x) e s = elim (cases_Bool (leb (length records) 15)) [
+  | inl b ↦ let h = rw b at e in cc
+  | inr b ↦ rw b s
 ]

@@ -49,11 +49,7 @@ served supply records x = served_frame supply records x (frame_of x)
 abbrev pub accepted? : Reception → Parts → Record → Header → Bool
 accepted? x f r h = sound? x && code_of f.command f.«data» r h == 0
 
--- how long an answer is, if there is one, and a buffer with the answer in its front
-abbrev pub length_of : Option (ℕ × List ℕ) → Option ℕ
-length_of (Some a) = Some (length a.1)
-length_of None = None
-
+-- a buffer with the answer, if there is one, in its front
 abbrev pub front_of : Option (ℕ × List ℕ) → List ℕ → List ℕ
 front_of (Some a) buffer = a.1 ++ drop (length a.1) buffer
 front_of None buffer = buffer

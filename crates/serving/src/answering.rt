@@ -9,7 +9,7 @@ ghost use Rattle.runs.specs.Shares.{others};
 ghost use Rattle.serving.specs.Serving.{accepted?};
 
 use frame::Frame;
-use line::{Header, Received, Request, change_of, flag_of, response_code};
+use line::{Header, Received, Request, ResponseCode, change_of, flag_of, response_code};
 use rack::{Change, Rack};
 use record::Record;
 
@@ -22,20 +22,21 @@ pub(crate) fn is_accepted(
 ) -> bool
     ensures { result ≡ accepted? (heard received.entry) (frame_parts frame.entry) «record».now header }
 {
-    received.is_sound() && response_code(frame.command, frame.data, record, header).number() == 0
+    received.is_sound()
+        && response_code(frame.command, frame.data, record, header) == ResponseCode::Success
 }
 
 // The sum of the shares of all channels but one, 0 where the rack has too many.
 pub(crate) fn others_share<R: Rack>(rack: &R, channel: u8) -> u64
     ensures { result ≡ (if nat_le (length (R.Rack.records rack.now)) 15 then others flowChannel (R.Rack.records rack.now) channel else 0) }
 {
-    match header::total_share(rack) {
-        Ok(total) => total.saturating_sub(header::channel_share(rack, channel)),
-        Err(_) => 0,
-    }
+    header::total_share(rack).map_or(0, |total| {
+        total.saturating_sub(header::channel_share(rack, channel))
+    })
 }
 
-// Writes what an accepted command writes into a channel: its data, and the changed flag.
+// Writes what an accepted command writes into a channel: its data, and the changed flag. `line` does the same to a record; one
+// function for both would call a closure up to twice, and its contract would have to name what the first call leaves.
 pub(crate) fn carry_out<R: Rack>(rack: &mut R, channel: u8, command: u8, data: &[u8])
     ensures { (r : ChannelRecord) → channel_of (R.Rack.records rack.old) channel ≡ Some r → R.Rack.records rack.new ≡ slice_set (R.Rack.records rack.old) channel (effect command «data».now r) }
 {

@@ -6,16 +6,10 @@ ghost use Rattle.line.specs.Requests.{asked_by};
 ghost use Rattle.record.specs.declared.Record.{Record as ChannelRecord};
 ghost use Rattle.serving.specs.Meant.{means_option, sole_meant};
 
-use crate::reading::read_text;
+use crate::reading::text_of;
 use frame::Frame;
-use line::{Request, address_means, tag_means};
-use rack::Rack;
-
-// The most channels of a panel.
-const MOST_CHANNELS: u8 = 15;
-
-// How many packed bytes a tag has.
-const TAG_LENGTH: usize = 6;
+use line::{Request, TAG_LENGTH, address_means, tag_means};
+use rack::{MOST_CHANNELS, Rack};
 
 // The one channel that a request's frame means; none where it means no channel or several, or the rack has too many.
 pub fn sole_meant<R: Rack>(rack: &R, frame: Frame<'_>) -> Option<u8>
@@ -25,22 +19,16 @@ pub fn sole_meant<R: Rack>(rack: &R, frame: Frame<'_>) -> Option<u8>
     if count > MOST_CHANNELS {
         return None;
     }
-    let mut found = None;
-    for channel in 0..count {
-        if meant_at(rack, frame, channel) {
-            if found.is_some() {
-                return None;
-            }
-            found = Some(channel);
-        }
-    }
-    found
+    let mut meant = (0..count).filter(|channel| meant_at(rack, frame, *channel));
+    let channel = meant.next()?;
+    meant.next().is_none().then_some(channel)
 }
 
 // Whether a request's frame means a channel; its tag is only asked for where the address means it.
 fn meant_at<R: Rack>(rack: &R, frame: Frame<'_>, channel: u8) -> bool
     ensures { result ≡ means_option (frame_parts frame.entry) (channel_of (R.Rack.records rack.now) channel) }
 {
+    // Not `is_ok_and`: of a closure that passes an address on, the proof does not learn what it answers.
     let Ok(fields) = rack.fields(channel) else {
         return false;
     };
@@ -50,7 +38,6 @@ fn meant_at<R: Rack>(rack: &R, frame: Frame<'_>, channel: u8) -> bool
 fn tag_meant<R: Rack>(rack: &R, frame: Frame<'_>, channel: u8) -> bool
     ensures { (r : ChannelRecord) → channel_of (R.Rack.records rack.now) channel ≡ Some r → result ≡ tag_means (asked_by frame.entry.command frame.entry.«data».now) (tag_of r) }
 {
-    let mut tag = [0; TAG_LENGTH];
-    read_text(rack, channel, &mut tag);
+    let tag: [u8; TAG_LENGTH] = text_of(rack, channel);
     tag_means(Request::of(frame.command, frame.data), &tag)
 }

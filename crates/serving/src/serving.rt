@@ -1,24 +1,17 @@
-ghost use Rattle.std.specs.Prelude.{◌≡◌, ◌≤◌, length, Some};
+ghost use Rattle.std.specs.Prelude.{◌≡◌};
 ghost use Rattle.std.specs.Option.{option_map};
 ghost use Rattle.frame.specs.Views.{frame_parts};
 ghost use Rattle.line.specs.Views.{heard};
-ghost use Rattle.line.specs.Whole.{frame_of};
-ghost use Rattle.rack.specs.Meaning.{channel_of};
-ghost use Rattle.serving.specs.Meant.{sole_meant};
-ghost use Rattle.serving.specs.Serving.{served_into, served_record, channel_and_length, length_of, front_of};
+ghost use Rattle.serving.specs.Serving.{served_into, channel_and_length, front_of};
 
 use crate::answering::{carry_out, is_accepted, others_share};
 use crate::choosing::sole_meant;
 use crate::reading::record_of;
-use frame::Frame;
-use line::{Header, Received, respond};
+use line::{Header, MOST_ANSWER, Received, respond};
 use rack::Rack;
 
-// A buffer of this length suffices for every answer.
-const MOST_ANSWER: usize = 64;
-
 // Who answers, and by how many bytes.
-#[derive(Clone, Copy)]
+#[derive(Clone, Copy, PartialEq, Eq, Debug)]
 pub struct Answer {
     pub channel: u8,
     pub length: usize,
@@ -39,48 +32,17 @@ pub fn serve<R: Rack>(
     if out.len() < MOST_ANSWER {
         return None;
     }
-    let Some(frame) = received.frame() else {
-        return None;
-    };
-    let Some(channel) = sole_meant(rack, frame) else {
-        return None;
-    };
-    match serve_channel(rack, channel, supply, received, frame, out) {
-        Some(length) => Some(Answer { channel, length }),
-        None => None,
-    }
-}
-
-// The one channel that is meant answers; its length is told.
-fn serve_channel<R: Rack>(
-    rack: &mut R,
-    channel: u8,
-    supply: u32,
-    received: Received<'_>,
-    frame: Frame<'_>,
-    out: &mut [u8],
-) -> Option<usize>
-    requires room { 64 ≤ length out.old }
-    requires framed { frame_of (heard received) ≡ Some (frame_parts frame) }
-    requires sole { sole_meant (frame_parts frame) (R.Rack.records rack.old) ≡ Some channel }
-    ensures length { result ≡ length_of (served_record supply (R.Rack.records rack.old) (heard received.entry) (frame_parts frame.entry) channel (channel_of (R.Rack.records rack.old) channel)).answer }
-    ensures buffer { out.new ≡ front_of (served_record supply (R.Rack.records rack.old) (heard received.entry) (frame_parts frame.entry) channel (channel_of (R.Rack.records rack.old) channel)).answer out.old }
-    ensures records { R.Rack.records rack.new ≡ (served_record supply (R.Rack.records rack.old) (heard received.entry) (frame_parts frame.entry) channel (channel_of (R.Rack.records rack.old) channel)).records }
-{
-    let Some(mut record) = record_of(rack, channel) else {
-        return None;
-    };
+    let frame = received.frame()?;
+    let channel = sole_meant(rack, frame)?;
+    let mut record = record_of(rack, channel)?;
     let header = Header {
         supply,
         others: others_share(rack, channel),
     };
     let accepted = is_accepted(received, frame, &record, header);
-    let answer = match respond(received, &mut record, header, out) {
-        Ok(answer) => answer,
-        Err(_) => return None,
-    };
+    let length = respond(received, &mut record, header, out).ok().flatten()?;
     if accepted {
         carry_out(rack, channel, frame.command, frame.data);
     }
-    answer
+    Some(Answer { channel, length })
 }

@@ -11,7 +11,7 @@ ghost use Rattle.setpoint.specs.LoadLaw.{LoadLaw};
 ghost use Rattle.setpoint.specs.Refusals.{admitted_under, code_of};
 ghost use Rattle.setpoint.specs.Setpoints.{setpoint_of};
 ghost use Rattle.setpoint.specs.Share.{share_of};
-ghost use Rattle.setpoint.specs.Units.{in_units};
+ghost use Rattle.setpoint.specs.Units.{in_units, is_full_scale};
 ghost use Rattle.setpoint.specs.Value.{value_of};
 
 // The fields of a pattern: one bit of sign, eight of exponent, 23 of fraction.
@@ -58,7 +58,8 @@ enum Binary32 {
     },
 }
 
-// What a pattern is as a setpoint.
+// What a pattern is as a setpoint. Not a `Result`: each case answers that question and none is a failure; whoever wants the load
+// alone has `load`, and whoever wants it or a refusal `admitted`.
 #[derive(Clone, Copy, PartialEq, Eq, Debug)]
 pub enum Setpoint {
     NotANumber,
@@ -149,10 +150,7 @@ pub fn classify(pattern: u32) -> Setpoint
             if negative && significand > 0 {
                 return Setpoint::BelowZero;
             }
-            match scaled(significand, exponent) {
-                Some(load) => Setpoint::Load(load),
-                None => Setpoint::Overload,
-            }
+            scaled(significand, exponent).map_or(Setpoint::Overload, Setpoint::Load)
         }
     }
 }
@@ -197,12 +195,19 @@ pub fn share(load: u32, full_scale: u32) -> u64
     u64::from(load) * u64::from(full_scale)
 }
 
+// Whether a full scale, in mL/min, is one that a record may have.
+pub fn is_full_scale(full_scale: u32) -> bool
+    ensures { result ≡ is_full_scale full_scale }
+{
+    matches!(full_scale, 1..=MAX_FULL_SCALE)
+}
+
 // A lawful setpoint in mL/min, as a pattern: percent times full scale, then divided by 100, each rounded once.
 pub fn in_units(pattern: u32, full_scale: u32) -> Option<u32>
     ensures value { result ≡ in_units pattern full_scale }
     ensures number { IfSome result (λ units. float_is_finite (value_of units) ≡ true) }
 {
-    if lawful(pattern) && 1 <= full_scale && full_scale <= MAX_FULL_SCALE {
+    if lawful(pattern) && is_full_scale(full_scale) {
         // The full scale is exact: binary32 has every whole number up to 2 ^ 24.
         let units = f32::from_bits(pattern) * full_scale as f32 / 100.0;
         Some(units.to_bits())
@@ -245,5 +250,7 @@ mod tests {
         assert_eq!(rt; in_units(0x41c8_0000, 1_000), Some(0x437a_0000));
         assert_eq!(rt; in_units(0x42c8_0000, 0), None);
         assert_eq!(rt; in_units(0x8000_0000, 1_000), None);
+        assert!(rt; is_full_scale(MAX_FULL_SCALE));
+        assert!(rt; !is_full_scale(MAX_FULL_SCALE + 1));
     }
 }

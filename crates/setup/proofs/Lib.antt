@@ -1,3 +1,2 @@
-pub mod Channels
 pub mod Twins
 pub mod SetUps

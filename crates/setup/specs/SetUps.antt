@@ -1,5 +1,6 @@
 -- Why a set-up is refused.
-use Rattle.std.specs.Prelude.{ℕ, Bool, false, cond, ◌&&◌, ◌||◌, List, [], ◌∷◌, length, Some, None, Option, ◌==◌, nat_le, nat_lt}
+use Rattle.std.specs.Prelude.{ℕ, Bool, false, cond, ◌&&◌, ◌||◌, List, [], ◌∷◌, length, drop, Some, None, Option, ◌+◌, ◌==◌, nat_le, nat_lt}
+use Rattle.std.specs.List.{list_any}
 use Rattle.header.specs.Shares.{total_share, fits?}
 use Rattle.rack.specs.Meaning.{channel_of}
 use Rattle.record.specs.declared.Fields.{Fields}
@@ -19,13 +20,15 @@ identity_at? f records channel = record_has? f (channel_of records channel)
 
 -- whether some channel has this identity
 abbrev pub among? : Fields → List Record → Bool
-among? f [] = false
-among? f (r ∷ records) = same_identity? f r.fields || among? f records
+among? f records = list_any (λ r. same_identity? f r.fields) records
 
--- whether a later channel has the identity of the first
-abbrev pub first_twin? : List Record → Bool
-first_twin? [] = false
-first_twin? (r ∷ records) = among? r.fields records
+-- whether one of the later channels has the identity of the channel of a number; false where there is none
+abbrev pub record_among? : List Record → Option Record → Bool
+record_among? later (Some r) = among? r.fields later
+record_among? later None = false
+
+abbrev pub twin_at? : List Record → ℕ → Bool
+twin_at? records channel = record_among? (drop (channel + 1) records) (channel_of records channel)
 
 -- whether some two channels have the same identity
 abbrev pub twins? : List Record → Bool

@@ -1,13 +1,13 @@
 -- The records of a shelf, each in a row of 80 bytes.
-use Rattle.std.specs.Prelude.{ℕ, Bool, true, ◌&&◌, List, [], ◌∷◌, map, take}
+use Rattle.std.specs.Prelude.{ℕ, Bool, List, map}
+use Rattle.std.specs.List.{list_all}
 use Rattle.record.specs.declared.Record.{Record}
 use Rattle.record.specs.Layout.{decoded}
 use Rattle.rack.specs.Lawful.{lawful?}
 
--- the records of the first rows
-abbrev pub records_in : ℕ → List (List ℕ) → List Record
-records_in count rows = map decoded (take count rows)
+abbrev pub records_in : List (List ℕ) → List Record
+records_in = map decoded
 
+-- the law of all records as a test
 abbrev pub all_lawful? : List Record → Bool
-all_lawful? [] = true
-all_lawful? (r ∷ records) = lawful? r && all_lawful? records
+all_lawful? = list_all lawful?

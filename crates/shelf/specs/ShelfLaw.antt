@@ -1,4 +1,4 @@
--- Why the law of a rack holds of a shelf.
+-- The law of records as a test, for all of a list.
 use Rattle.std.specs.Prelude.{◌≡◌, true, List, [], ◌∷◌}
 use Rattle.std.specs.List.{AllByRecursion}
 use Rattle.std.proofs.lemmas.Bool.{and_parts}

@@ -1,18 +1,21 @@
-ghost use Rattle.std.specs.Prelude.{◌≡◌, ◌≤◌, true, length};
-ghost use Rattle.shelf.specs.Rows.{records_in, all_lawful?};
+ghost use Rattle.std.specs.Prelude.{◌<◌};
+ghost use Rattle.std.specs.List.{AllByRecursion, AllByRecursion-prop};
+ghost use Rattle.std.proofs.Props.{props};
+ghost use Rattle.arrayvec.specs.ArrayVec.{array_vec_len};
+ghost use Rattle.record.specs.Lawful.{Lawful};
+ghost use Rattle.shelf.specs.Rows.{records_in};
 
+use arrayvec::ArrayVec;
+use rack::MOST_CHANNELS;
 use record::RECORD_LENGTH;
 
 // The most records of a shelf.
-pub const MOST_RECORDS: usize = 15;
+pub const MOST_RECORDS: usize = MOST_CHANNELS as usize;
 
 // A shelf: 1 to 15 records, held as bytes.
 #[derive(Drop)]
 pub struct Shelf {
-    pub(crate) rows: [[u8; RECORD_LENGTH]; MOST_RECORDS],
-    pub(crate) count: usize,
-    ghost some: { 1 ≤ count },
-    ghost few: { count ≤ length rows },
-    ghost room: { length rows ≡ 15 },
-    ghost lawful: { all_lawful? (records_in count rows) ≡ true },
+    pub(crate) rows: ArrayVec<[u8; RECORD_LENGTH], MOST_RECORDS>,
+    ghost some: { 0 < array_vec_len rows },
+    ghost lawful: { AllByRecursion Lawful (records_in rows.items) } by { AllByRecursion-prop Lawful (λ r. Prim.hlevel props) (records_in rows.items) },
 }

@@ -1,5 +1,4 @@
-ghost use Rattle.std.specs.Prelude.{◌≡◌, true};
-ghost use Rattle.rack.specs.Lawful.{lawful?};
+ghost use Rattle.record.specs.Lawful.{Lawful};
 
 use record::Record;
 
@@ -7,5 +6,5 @@ use record::Record;
 #[derive(Drop)]
 pub struct Single {
     pub(crate) record: Record,
-    ghost lawful: { lawful? «record» ≡ true },
+    ghost lawful: { Lawful «record» },
 }

@@ -1,11 +1,15 @@
-ghost use Rattle.std.specs.Prelude.{◌≡◌, false, [], ◌∷◌, is_ok, if◌then◌else◌};
+ghost use Rattle.std.specs.Prelude.{◌≡◌, false, [], ◌∷◌, is_ok, if◌then◌else◌, IfOk, IfErr};
+ghost use Rattle.std.specs.Option.{option_map};
+ghost use Rattle.std.specs.Result.{result_ok};
+ghost use Rattle.refusals.specs.declared.Refusal.TheVariants.{NoChannel};
+ghost use Rattle.record.specs.Lawful.{Lawful};
 ghost use Rattle.rack.specs.Blank.{blank_record};
 ghost use Rattle.rack.specs.Files.{file_answer, file_records};
-ghost use Rattle.rack.proofs.Lawful.{law_decided};
+ghost use Rattle.rack.specs.Meaning.{channel_of};
 
 use crate::single::Single;
 use rack::{Change, FileFault, Rack, RackRefusal, apply, blank_record, check_record};
-use record::{Fields, RECORD_LENGTH, Reading, record_at};
+use record::{Fields, Reading, Record, record_at};
 use refusals::Refusal;
 
 impl Single {
@@ -24,55 +28,48 @@ impl Single {
         ensures after { self.new.«record» ∷ [] ≡ (if is_ok result then file_records file.now else self.old.«record» ∷ []) }
         ensures same { is_ok result ≡ false → self.new ≡ self.old }
     {
-        if file.len() != RECORD_LENGTH {
-            return Err(FileFault::Count);
-        }
-        let mut row = [0; RECORD_LENGTH];
-        row.copy_from_slice(file);
-        check_record(0, &row)?;
-        self.record = record_at(&row);
+        let row = file.as_array().ok_or(FileFault::Count)?;
+        check_record(0, row)?;
+        self.record = record_at(row);
         Ok(())
+    }
+
+    // The record of a channel.
+    fn at(&self, channel: u8) -> Result<&Record, Refusal>
+        ensures value { option_map (λ r. r.now) (result_ok result) ≡ channel_of (self.now.«record» ∷ []) channel }
+        ensures lawful { IfOk result (λ r. Lawful r.now) }
+        ensures refusal { IfErr result (λ e. e ≡ NoChannel) }
+    {
+        (channel == 0)
+            .then_some(&self.record)
+            .ok_or(Refusal::NoChannel)
     }
 }
 
 impl Rack for Single {
     ghost records = { λ s. s.«record» ∷ [] };
 
-    ghost lawful = { λ s. ((law_decided s.«record»).0 s.lawful, tt) };
+    ghost lawful = { λ s. (s.lawful, tt) };
 
     fn count(&self) -> u8 {
         1
     }
 
     fn fields(&self, channel: u8) -> Result<Fields, RackRefusal> {
-        if channel > 0 {
-            return Err(RackRefusal::Call(Refusal::NoChannel));
-        }
-        Ok(self.record.fields)
+        Ok(self.at(channel)?.fields)
     }
 
     fn reading(&self, channel: u8) -> Result<Reading, RackRefusal> {
-        if channel > 0 {
-            return Err(RackRefusal::Call(Refusal::NoChannel));
-        }
-        Ok(self.record.reading)
+        Ok(self.at(channel)?.reading)
     }
 
     fn text_byte(&self, channel: u8, place: u8) -> Result<u8, RackRefusal> {
-        if channel > 0 {
-            return Err(RackRefusal::Call(Refusal::NoChannel));
-        }
-        match self.record.text.get(place as usize) {
-            Some(byte) => Ok(*byte),
-            None => Err(RackRefusal::Call(Refusal::OutOfForm)),
-        }
+        let record = self.at(channel)?;
+        Ok(*record.text.get(place as usize).ok_or(Refusal::OutOfForm)?)
     }
 
     fn write(&mut self, channel: u8, change: Change<'_>) -> Result<(), RackRefusal> {
-        if channel > 0 {
-            return Err(RackRefusal::Call(Refusal::NoChannel));
-        }
-        let mut record = self.record;
+        let mut record = *self.at(channel)?;
         apply(&mut record, change)?;
         self.record = record;
         Ok(())

@@ -1,10 +1,17 @@
 -- One group more, the length of what the groups give, and a regrouping undone by another.
-use Rattle.std.proofs.Common.{◌≡◌, ℕ, zero, suc, ◌+◌, ◌*◌, List, ◌++◌, length, take, drop, sym, ◌∙◌, append_assoc, suc-mul, add_comm, zero-mul, add-one, arith, length-append}
+use Rattle.std.proofs.Common.{◌≡◌, ℕ, zero, suc, ◌+◌, ◌*◌, ◌<◌, List, ◌++◌, length, get_or, take, drop, refl, sym, ◌∙◌, append_assoc, suc-mul, add_comm, zero-mul, add-one, arith, length-append}
 use borrow.Rule.Slice.PartMut.{put_mid}
+use Rattle.std.specs.Simd.{first_chunks}
 use Rattle.std.specs.List.{AllByRecursion}
 use Rattle.std.proofs.lemmas.List.{drop-drop, append-nil, take_at, drop_at, nil_from_length, length-take-le, length-drop, take-append-drop}
 use Rattle.std.proofs.ByRecursion.{All-take, All-drop}
 use Rattle.text.specs.Groups.{grouped}
+
+-- a group by its place
+pub chunk_at : (w n : ℕ) (xs : List ℕ) (i : ℕ) (d : List ℕ) → i < n → get_or (first_chunks w n xs) i d ≡ take w (drop (i * w) xs)
+chunk_at w zero xs i d h = absurd (omega arith)
+chunk_at w (suc n) xs zero d h = rw zero-mul refl
+chunk_at w (suc n) xs (suc i) d h = rw (chunk_at w n (drop w xs) i d (omega arith), drop-drop, suc-mul, add_comm (i * w) w) refl
 
 module _ (f : List ℕ → List ℕ) (w : ℕ) where
   pub grouped_more : (n : ℕ) (xs : List ℕ) → grouped (suc n) w f xs ≡ grouped n w f xs ++ f (take w (drop (n * w) xs))

@@ -1,5 +1,6 @@
 -- Packed text: four letters of six bits in three bytes.
 use Rattle.std.specs.Prelude.{◌≡◌, ℕ, ◌+◌, ◌-◌, ◌*◌, ◌/◌, ◌%◌, Bool, true, ◌&&◌, List, [], ◌∷◌, length, ◌==◌, nat_le, slice_index}
+use Rattle.std.specs.List.{list_all}
 use Rattle.text.specs.Groups.{grouped}
 
 -- a letter that packed text can hold: 20 to 5F hexadecimal
@@ -7,8 +8,7 @@ abbrev pub letter? : ℕ → Bool
 letter? l = nat_le 0x20 l && nat_le l 0x5f
 
 abbrev pub letters? : List ℕ → Bool
-letters? [] = true
-letters? (l ∷ t) = letter? l && letters? t
+letters? = list_all letter?
 
 -- a text in form: letters only, in groups of four
 abbrev pub text? : List ℕ → Bool

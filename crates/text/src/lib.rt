@@ -1,9 +1,10 @@
 // Packed text: four letters, 20 to 5F hexadecimal, in three bytes, six bits each, the first letter highest.
 #![tactic(auto)]
 
-ghost use Rattle.std.specs.Prelude.{◌≡◌, ◌+◌, ◌-◌, ◌*◌, ◌/◌, ◌%◌, ◌<◌, length, take, IfOk};
+ghost use Rattle.std.specs.Prelude.{◌≡◌, ℕ, ◌/◌, ◌^◌, ◌<◌, true, List, length, take, IfOk, refl};
 ghost use Rattle.refusals.specs.Refusals.{numbered};
 ghost use Rattle.refusals.specs.Filling.{Fills};
+ghost use Rattle.text.specs.Groups.{grouped};
 ghost use Rattle.text.specs.Text.{six_bits, letter_of, letters?, text?, packed?, packed, unpacked, bits_of_letters, bits_of_bytes, three_bytes, four_letters, ReadsBack, PacksAgain};
 
 use refusals::Refusal;
@@ -17,15 +18,7 @@ pub fn pack(text: &[u8], out: &mut [u8]) -> Result<usize, Refusal>
     if text.len() % 4 != 0 || !all_letters(text) {
         return Err(Refusal::OutOfForm);
     }
-    let groups = text.len() / 4;
-    if out.len() < groups * 3 {
-        return Err(Refusal::ShortBuffer);
-    }
-    for i in 0..groups {
-        let bytes = three_bytes(&text[i * 4..i * 4 + 4]);
-        out[i * 3..i * 3 + 3].copy_from_slice(&bytes);
-    }
-    Ok(groups * 3)
+    regroup::<4, 3, Packing>(text, out)
 }
 
 // Unpacks `packed` into the front of `out` and answers how many letters it wrote: 110 unless the bytes come in groups of
@@ -37,26 +30,48 @@ pub fn unpack(packed: &[u8], out: &mut [u8]) -> Result<usize, Refusal>
     if packed.len() % 3 != 0 {
         return Err(Refusal::OutOfForm);
     }
-    let groups = packed.len() / 3;
-    if out.len() / 4 < groups {
+    regroup::<3, 4, Unpacking>(packed, out)
+}
+
+// A code of bytes in groups: of each N bytes it makes M.
+trait Code<const N: usize, const M: usize> {
+    ghost coded: { List ℕ → List ℕ };
+
+    fn code(group: &[u8; N]) -> [u8; M]
+        ensures { result ≡ coded group.now };
+
+    ghost sized: { (group : List ℕ) → length (coded group) ≡ M };
+}
+
+struct Packing;
+
+struct Unpacking;
+
+// Codes each group, one after another, into the front of `out` and answers how many bytes it wrote: 102 where `out` is too
+// short.
+fn regroup<const N: usize, const M: usize, C: Code<N, M>>(
+    from: &[u8],
+    out: &mut [u8],
+) -> Result<usize, Refusal>
+    requires sizes { (0 < N) × (0 < M) }
+    requires small { (N < 2 ^ 8) × (M < 2 ^ 8) }
+    ensures { Fills true (grouped (length from.now / N) N C.coded from.now) out.old (numbered result) out.new }
+{
+    let (groups, _) = from.as_chunks::<N>();
+    if out.len() / M < groups.len() {
         return Err(Refusal::ShortBuffer);
     }
-    for i in 0..groups {
-        let letters = four_letters(&packed[i * 3..i * 3 + 3]);
-        out[i * 4..i * 4 + 4].copy_from_slice(&letters);
+    // Into `out` by places: what becomes of a slice that is lent in chunks no clause of the library says.
+    for (i, group) in groups.iter().enumerate() {
+        out[i * M..(i + 1) * M].copy_from_slice(&C::code(group));
     }
-    Ok(groups * 4)
+    Ok(groups.len() * M)
 }
 
 fn all_letters(text: &[u8]) -> bool
     ensures { result ≡ letters? text.now }
 {
-    for letter in text {
-        if !matches!(*letter, 0x20..=0x5F) {
-            return false;
-        }
-    }
-    true
+    text.iter().all(|letter| matches!(*letter, 0x20..=0x5F))
 }
 
 // The letter of six bits: bit 6 is the complement of bit 5.
@@ -75,28 +90,34 @@ fn six_bits(letter: u8) -> u32
     u32::from(letter % 64)
 }
 
-fn three_bytes(letters: &[u8]) -> [u8; 3]
-    requires { length letters.now ≡ 4 }
-    ensures { result ≡ three_bytes (bits_of_letters letters.now) }
-{
-    let group = ((six_bits(letters[0]) * 64 + six_bits(letters[1])) * 64 + six_bits(letters[2]))
-        * 64
-        + six_bits(letters[3]);
-    let [_, first, second, third] = group.to_be_bytes();
-    [first, second, third]
+impl Code<4, 3> for Packing {
+    ghost coded = { λ g. three_bytes (bits_of_letters g) };
+
+    ghost sized = { λ _. refl };
+
+    fn code(letters: &[u8; 4]) -> [u8; 3] {
+        let [a, b, c, d] = *letters;
+        let bits = ((six_bits(a) * 64 + six_bits(b)) * 64 + six_bits(c)) * 64 + six_bits(d);
+        let [_, first, second, third] = bits.to_be_bytes();
+        [first, second, third]
+    }
 }
 
-fn four_letters(bytes: &[u8]) -> [u8; 4]
-    requires { length bytes.now ≡ 3 }
-    ensures { result ≡ four_letters (bits_of_bytes bytes.now) }
-{
-    let group = u32::from_be_bytes([0, bytes[0], bytes[1], bytes[2]]);
-    [
-        letter(group >> 18),
-        letter((group >> 12) % 64),
-        letter((group >> 6) % 64),
-        letter(group % 64),
-    ]
+impl Code<3, 4> for Unpacking {
+    ghost coded = { λ g. four_letters (bits_of_bytes g) };
+
+    ghost sized = { λ _. refl };
+
+    fn code(bytes: &[u8; 3]) -> [u8; 4] {
+        let [first, second, third] = *bytes;
+        let bits = u32::from_be_bytes([0, first, second, third]);
+        [
+            letter(bits >> 18),
+            letter((bits >> 12) % 64),
+            letter((bits >> 6) % 64),
+            letter(bits % 64),
+        ]
+    }
 }
 
 #[cfg(test)]

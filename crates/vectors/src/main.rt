@@ -9,10 +9,11 @@
 #![tactic(auto)]
 
 use anyhow::anyhow;
-use frame::{Address, Master};
-use hexdigits::HexFault;
+use digits::{MasterName, Width};
+use frame::{Address, Transmission};
 use refusals::Refusal;
-use std::alloc::Global;
+use tables::bytes_of;
+use words::from_bytes;
 
 // What every byte of a lent buffer is before the call.
 const UNTOUCHED: u8 = 0xA5;
@@ -21,6 +22,7 @@ fn main(rt: HostRuntime) -> anyhow::Result<()> {
     run(&rt)
 }
 
+// Each program has this loop: a function of a library that reads a program's input could promise nothing of its result.
 fn run(rt: &HostRuntime) -> anyhow::Result<()> {
     for line in rt.lines(rt.alloc()) {
         let line = line?;
@@ -31,65 +33,54 @@ fn run(rt: &HostRuntime) -> anyhow::Result<()> {
 }
 
 fn call(rt: &HostRuntime, words: &[&str]) -> anyhow::Result<()> {
-    let heap = rt.alloc();
     match words {
-        ["pack", text, length] => {
-            let text = bytes(heap, text)?;
-            let mut out = vec![in heap; UNTOUCHED; length.parse::<usize>()?]?;
-            let answer = text::pack(text.as_slice(), out.as_mut_slice());
-            filled(rt, answer, out.as_slice())
-        }
-        ["unpack", packed, length] => {
-            let packed = bytes(heap, packed)?;
-            let mut out = vec![in heap; UNTOUCHED; length.parse::<usize>()?]?;
-            let answer = text::unpack(packed.as_slice(), out.as_mut_slice());
-            filled(rt, answer, out.as_slice())
-        }
-        ["make", preambles, address, command, data, length] => {
-            let address = bytes(heap, address)?;
-            let data = bytes(heap, data)?;
-            let mut out = vec![in heap; UNTOUCHED; length.parse::<usize>()?]?;
-            let answer = frame::make_request(
-                preambles.parse::<usize>()?,
-                address.as_slice(),
-                command.parse::<u8>()?,
-                data.as_slice(),
-                out.as_mut_slice(),
-            );
-            filled(rt, answer, out.as_slice())
-        }
-        ["read", sent] => read(rt, bytes(heap, sent)?.as_slice()),
+        ["pack", text, length] => regroup(rt, text::pack, text, length),
+        ["unpack", packed, length] => regroup(rt, text::unpack, packed, length),
+        ["make", parts @ .., length] => make(rt, parts, length),
+        ["read", sent] => read(rt, sent),
         _ => Err(anyhow!("a line with no call")),
     }
 }
 
-fn read(rt: &HostRuntime, sent: &[u8]) -> anyhow::Result<()> {
-    let request = match frame::read_request(sent) {
-        Ok(request) => request,
-        Err(refusal) => {
-            println!(rt; "refused {} {refusal}", refusal.number())?;
-            return Ok(());
-        }
-    };
-    let master = match request.address.master() {
-        Master::Primary => "primary",
-        Master::Secondary => "secondary",
-    };
-    let width = match request.address {
-        Address::Short(_) => "short",
-        Address::Long(_) => "long",
-    };
-    let address = digits(rt.alloc(), request.address.bytes())?;
-    let data = digits(rt.alloc(), request.data)?;
-    println!(rt;
-        "{} {master} {width} {address} {} {data}",
-        request.preambles, request.command
-    )?;
-    Ok(())
+fn regroup<F: FnOnce(&[u8], &mut [u8]) -> Result<usize, Refusal> + Drop>(
+    rt: &HostRuntime,
+    codec: F,
+    word: &str,
+    length: &str,
+) -> anyhow::Result<()>
+    requires { F.IsAlwaysCallable codec }
+{
+    let bytes = bytes_of(rt.alloc(), word)?;
+    let mut out = lent(rt, length)?;
+    let answer = codec(bytes.as_slice(), out.as_mut_slice());
+    tell(rt, answer, out.as_slice())
 }
 
-fn filled(rt: &HostRuntime, answer: Result<usize, Refusal>, out: &[u8]) -> anyhow::Result<()> {
-    let out = digits(rt.alloc(), out)?;
+fn make(rt: &HostRuntime, parts: &[&str], length: &str) -> anyhow::Result<()> {
+    let [preambles, address, command, data] = parts else {
+        return Err(anyhow!("a line with no call"));
+    };
+    let address = bytes_of(rt.alloc(), address)?;
+    let data = bytes_of(rt.alloc(), data)?;
+    let request = Transmission {
+        preambles: preambles.parse()?,
+        address: Address::from(address.as_slice()),
+        command: command.parse()?,
+        data: data.as_slice(),
+    };
+    let mut out = lent(rt, length)?;
+    let answer = frame::make_request(request, out.as_mut_slice());
+    tell(rt, answer, out.as_slice())
+}
+
+// A buffer to lend.
+fn lent(rt: &HostRuntime, length: &str) -> anyhow::Result<Vec<u8>> {
+    Ok(vec![in rt.alloc(); UNTOUCHED; length.parse()?]?)
+}
+
+// Prints the answer of a call, and the lent buffer as the call left it.
+fn tell(rt: &HostRuntime, answer: Result<usize, Refusal>, out: &[u8]) -> anyhow::Result<()> {
+    let out = from_bytes(rt.alloc(), out)?;
     match answer {
         Ok(length) => println!(rt; "{length} {out}")?,
         Err(refusal) => println!(rt; "refused {} {refusal} {out}", refusal.number())?,
@@ -97,20 +88,23 @@ fn filled(rt: &HostRuntime, answer: Result<usize, Refusal>, out: &[u8]) -> anyho
     Ok(())
 }
 
-// The bytes of a word of the table.
-fn bytes(heap: Global, word: &str) -> Result<Vec<u8>, HexFault> {
-    match word {
-        "-" => Ok(Vec::new(heap)),
-        digits => hexdigits::parse_hex(heap, digits.as_bytes()),
+fn read(rt: &HostRuntime, sent: &str) -> anyhow::Result<()> {
+    let sent = bytes_of(rt.alloc(), sent)?;
+    match frame::read_request(sent.as_slice()) {
+        Ok(request) => show(rt, request),
+        Err(refusal) => Ok(println!(rt; "refused {} {refusal}", refusal.number())?),
     }
 }
 
-// Bytes as a word of the table.
-fn digits(heap: Global, bytes: &[u8]) -> anyhow::Result<String> {
-    if bytes.is_empty() {
-        return Ok(String::from_str(heap, "-")?);
-    }
-    let mut text = Vec::new(heap);
-    hexdigits::push_hex(&mut text, bytes)?;
-    Ok(String::from_utf8(text)?)
+fn show(rt: &HostRuntime, request: Transmission<'_>) -> anyhow::Result<()> {
+    let address = from_bytes(rt.alloc(), request.address.bytes())?;
+    let data = from_bytes(rt.alloc(), request.data)?;
+    println!(rt;
+        "{} {} {} {address} {} {data}",
+        request.preambles,
+        MasterName(request.address.master()),
+        Width(request.address),
+        request.command
+    )?;
+    Ok(())
 }

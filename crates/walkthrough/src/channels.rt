@@ -1,3 +1,4 @@
+use digits::Letters;
 use rack::Rack;
 use record::{Fields, value_of};
 use shelf::Shelf;
@@ -26,20 +27,17 @@ pub(crate) fn show_rack(rt: &HostRuntime) -> anyhow::Result<()> {
     Ok(())
 }
 
+// A loop of its own: `serving`, which reads text too, is about requests, and here is a rack alone.
 fn show_tag<R: Rack>(rt: &HostRuntime, rack: &R, channel: u8) -> anyhow::Result<()> {
     let mut packed = [0; 6];
-    for place in 0..6u8 {
-        if let Ok(byte) = rack.text_byte(channel, place) {
-            packed[place as usize] = byte;
+    for (byte, place) in packed.iter_mut().zip(0u8..) {
+        if let Ok(told) = rack.text_byte(channel, place) {
+            *byte = told;
         }
     }
     let mut letters = [0; 8];
     text::unpack(&packed, &mut letters)?;
-    print!(rt; "     channel {channel}, tag ")?;
-    for letter in letters {
-        print!(rt; "{}", char::from(letter))?;
-    }
-    println!(rt; "")?;
+    println!(rt; "     channel {channel}, tag {}", Letters(&letters))?;
     Ok(())
 }
 

@@ -1,6 +1,8 @@
 -- What a reading of bytes answers.
 use Rattle.std.specs.Prelude.{◌≡◌, ℕ, List, Some, None, Ok, Err, vec_items, Option, Result, Vec}
 use Rattle.std.specs.declared.alloc.Global.{Global}
+use Rattle.hexdigits.specs.declared.HexFault.{HexFault}
+use Rattle.hexdigits.specs.declared.HexFault.TheVariants.{NotHex, Memory as NoMemory}
 use Rattle.words.specs.declared.WordFault.{WordFault}
 use Rattle.words.specs.declared.WordFault.TheVariants.{NotBytes, NotPattern, Memory}
 
@@ -10,3 +12,8 @@ Reads bytes (Ok v) = bytes ≡ Some (vec_items v)
 Reads bytes (Err NotBytes) = bytes ≡ None
 Reads bytes (Err NotPattern) = ⊥
 Reads bytes (Err Memory) = Unit {0}
+
+-- a fault of the digits, as one of the word
+abbrev pub told_of : HexFault → WordFault
+told_of NotHex = NotBytes
+told_of NoMemory = Memory

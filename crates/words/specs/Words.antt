@@ -2,7 +2,7 @@
 use Rattle.std.specs.Prelude.{ℕ, ◌+◌, ◌*◌, cond, List, [], ◌∷◌, length, Some, None, Ok, Err, Option, Result, ◌==◌}
 use Rattle.words.specs.declared.WordFault.{WordFault}
 use Rattle.words.specs.declared.WordFault.TheVariants.{NotPattern}
-use Rattle.words.specs.Hex.{hex_of, bytes_of}
+use Rattle.hexdigits.specs.Hex.{hex_of, bytes_of}
 
 -- '-'
 abbrev pub dash : ℕ

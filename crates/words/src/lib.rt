@@ -1,17 +1,18 @@
 // Words of a table of calls: bytes and patterns in capital hexadecimal, and '-' where there are no bytes.
 #![tactic(auto)]
 
-ghost use Rattle.std.specs.Prelude.{◌≡◌, ◌<◌, [], IfSome, IfOk, Some, string_bytes};
-ghost use Rattle.words.specs.declared.WordFault.TheVariants.{Memory};
-ghost use Rattle.words.specs.Hex.{digit_of, value_of, byte_of, before, bytes_of};
-ghost use Rattle.words.specs.Words.{word_of, bytes_at, numbered, pattern_at};
-ghost use Rattle.words.specs.Answers.{Reads};
+ghost use Rattle.std.specs.Prelude.{◌≡◌, [], IfOk, Some, string_bytes};
+ghost use Rattle.hexdigits.specs.Hex.{before};
+ghost use Rattle.std.specs.Option.{option_map};
+ghost use Rattle.words.specs.Words.{word_of, bytes_at, number_after, pattern_at};
+ghost use Rattle.words.specs.Answers.{Reads, told_of};
 
-use std::alloc::{AllocError, AllocFailed, Global};
+use hexdigits::{HexFault, byte, parse_hex, to_hex};
+use std::alloc::{AllocError, Global};
 use std::error::Error;
 use std::fmt;
 
-// Why a word was not read.
+// Why a word was not read. Not a `HexFault`: a word that is no pattern is told apart, and the words of a message are others.
 #[derive(Clone, Copy, PartialEq, Eq, Debug)]
 pub enum WordFault {
     // Neither '-' nor two capital digits for each byte.
@@ -33,11 +34,14 @@ impl fmt::Display for WordFault {
 
 impl Error for WordFault {}
 
-impl<T: Drop> From<AllocFailed<T>> for WordFault {
-    ghost from_gives = { λ _ r. r ≡ Memory };
+impl From<HexFault> for WordFault {
+    ghost from_gives = { λ e r. r ≡ told_of e };
 
-    fn from(_refused: AllocFailed<T>) -> WordFault {
-        Self::Memory
+    fn from(e: HexFault) -> WordFault {
+        match e {
+            HexFault::NotHex => WordFault::NotBytes,
+            HexFault::Memory => WordFault::Memory,
+        }
     }
 }
 
@@ -48,7 +52,7 @@ pub fn to_bytes(heap: Global, word: &str) -> Result<Vec<u8>, WordFault>
     match word {
         "-" => Ok(Vec::new(heap)),
         "" => Err(WordFault::NotBytes),
-        digits => parse(heap, digits.as_bytes()),
+        digits => Ok(parse_hex(heap, digits.as_bytes())?),
     }
 }
 
@@ -57,9 +61,12 @@ pub fn to_pattern(word: &str) -> Result<u32, WordFault>
     ensures { result ≡ pattern_at word.now }
 {
     match word.as_bytes() {
-        [a, b, c, d, e, f, g, h] => {
-            joined(byte(*a, *b), byte(*c, *d), byte(*e, *f), byte(*g, *h))
-        }
+        [a, b, c, d, e, f, g, h] => joined(
+            byte(*a, *b),
+            byte(*c, *d),
+            byte(*e, *f),
+            byte(*g, *h),
+        ).ok_or(WordFault::NotPattern),
         _ => Err(WordFault::NotPattern),
     }
 }
@@ -72,29 +79,7 @@ pub fn from_bytes(heap: Global, bytes: &[u8]) -> Result<String, AllocError>
     if bytes.is_empty() {
         return String::from_str(heap, "-");
     }
-    let mut word = String::new(heap);
-    for byte in bytes {
-        word.push(digit(byte / 16))?;
-        word.push(digit(byte % 16))?;
-    }
-    Ok(word)
-}
-
-// The bytes of a text of digits.
-fn parse(heap: Global, text: &[u8]) -> Result<Vec<u8>, WordFault>
-    ensures { Reads (bytes_of text.now) result }
-{
-    if text.len() % 2 != 0 {
-        return Err(WordFault::NotBytes);
-    }
-    let mut bytes = Vec::new(heap);
-    for i in 0..text.len() / 2 {
-        let Some(byte) = byte(text[i * 2], text[i * 2 + 1]) else {
-            return Err(WordFault::NotBytes);
-        };
-        bytes.push(byte)?;
-    }
-    Ok(bytes)
+    to_hex(heap, bytes)
 }
 
 // The 32 bits of four bytes, the highest first, if all are there.
@@ -103,40 +88,8 @@ fn joined(
     second: Option<u8>,
     third: Option<u8>,
     fourth: Option<u8>,
-) -> Result<u32, WordFault>
-    ensures { result ≡ numbered (before first (before second (before third (before fourth (Some []))))) }
+) -> Option<u32>
+    ensures { result ≡ option_map (number_after 0) (before first (before second (before third (before fourth (Some []))))) }
 {
-    match (first, second, third, fourth) {
-        (Some(first), Some(second), Some(third), Some(fourth)) => {
-            Ok(u32::from_be_bytes([first, second, third, fourth]))
-        }
-        _ => Err(WordFault::NotPattern),
-    }
-}
-
-// The byte of two digits, if they are.
-fn byte(high: u8, low: u8) -> Option<u8>
-    ensures { result ≡ byte_of high low }
-{
-    Some(value(high)? * 16 + value(low)?)
-}
-
-// The number of a digit, if it is one.
-fn value(c: u8) -> Option<u8>
-    ensures value { result ≡ value_of c }
-    ensures bound { IfSome result (λ v. v < 16) }
-{
-    match c {
-        b'0'..=b'9' => Some(c - b'0'),
-        b'A'..=b'F' => Some(c - b'A' + 10),
-        _ => None,
-    }
-}
-
-// The digit of a number below 16.
-fn digit(n: u8) -> char
-    requires { n < 16 }
-    ensures { result ≡ digit_of n }
-{
-    char::from(if n < 10 { b'0' + n } else { b'A' + (n - 10) })
+    Some(u32::from_be_bytes([first?, second?, third?, fourth?]))
 }

@@ -1,21 +1,23 @@
-use Rattle.std.proofs.Common.{vec_items, sym, arith}
+use Rattle.std.proofs.Common.{ℕ, List, ◌%◌, ◌/◌, ◌≡◌, ap, sym, ◌∙◌, length, vec_items, arith, false-eqb, true-eqb}
 use Rattle.std.proofs.lemmas.Result.{err_from_is_err_and}
-use Rattle.hexdigits.proofs.Reading.{odd, at_none, at_byte, at_end}
+use Rattle.std.specs.Simd.{first_chunks}
+use Rattle.hexdigits.specs.Hex.{bytes_of}
+use Rattle.hexdigits.proofs.Reading.{in_pairs, pairs_read, odd, at_none, at_end, refused}
 use Rattle.hexdigits.proofs.parse_hex.Goals as goal
 
-pub returns-then-text-ne0 : goal.returns-then-text-ne0
-returns-then-text-ne0 c = odd c.args.text.now (λ e. omega arith)
+-- a text of an even length is read in pairs
+even : (text : List ℕ) (pairs : List (List ℕ)) → length text % 2 ≡ 0 → pairs ≡ first_chunks 2 (length text / 2) text → in_pairs pairs ≡ bytes_of text
+even text pairs h e = ap in_pairs e ∙ pairs_read (length text / 2) text (omega arith)
 
-pub returns-in_default : goal.returns-in_default
-returns-in_default c = at_none c.args.text.now (vec_items c.loop-i.bytes) c.loop-i.i c.loop-i.invariant (omega arith) (sym c.in_default.ensures)
+pub returns-then-not-is_empty : goal.returns-then-not-is_empty
+returns-then-not-is_empty c = odd c.args.text.now (λ e. false-eqb (length c.as_chunks.result.1.now) 0 c.if-not-is_empty.ensures (c.as_chunks.ensures.back_len ∙ e))
 
-pub returns-in_err-push : goal.returns-in_err-push
-returns-in_err-push c = let p = err_from_is_err_and c.from_residual.result c.from_residual.ensures.1 in rw (p.1, p.2) tt
-
-pub loop-i-preserved : goal.loop-i-preserved
-loop-i-preserved c =
-    rw c.in_ok-push.ensures.items
-    (at_byte c.args.text.now (vec_items c.loop-i.bytes) c.loop-i.i c.loop-i.invariant c.in-Some.byte (omega arith) (sym c.in-Some.ensures))
+pub returns-in_err-ok_or : goal.returns-in_err-ok_or
+returns-in_err-ok_or c =
+    let p = err_from_is_err_and c.from_residual.result c.from_residual.ensures.1 in
+    let r = refused c.byte.result c.in_err-ok_or.field-0.0 c.in_err-ok_or.ensures.value in
+    let e = even c.args.text.now c.as_chunks.result.0.now (sym c.as_chunks.ensures.back_len ∙ true-eqb (length c.as_chunks.result.1.now) 0 c.if-not-is_empty.ensures) c.as_chunks.ensures.front in
+    rw (p.1, p.2, r.1) (sym e ∙ at_none c.as_chunks.result.0.now (vec_items c.loop-pair.bytes) c.loop-pair.pair-index c.loop-pair.invariant c.loop-pair-test.true (sym c.byte.ensures ∙ r.0))
 
 pub returns : goal.returns
-returns c = at_end c.args.text.now (vec_items c.loop-i.bytes) c.loop-i.i c.loop-i.invariant (omega arith)
+returns c = sym (even c.args.text.now c.as_chunks.result.0.now (sym c.as_chunks.ensures.back_len ∙ true-eqb (length c.as_chunks.result.1.now) 0 c.if-not-is_empty.ensures) c.as_chunks.ensures.front) ∙ at_end c.as_chunks.result.0.now _ c.loop-pair.pair-index c.loop-pair.invariant (omega arith)

@@ -1,6 +1,7 @@
-use Rattle.std.proofs.Common.{true, false, Some, None}
+use Rattle.std.proofs.Common.{◌≡◌, true, false, ◌∙◌, arith}
+use Rattle.std.proofs.lemmas.Grind.{common_steps}
 use Rattle.setpoint.specs.Value.{value_of}
-use Rattle.setpoint.proofs.Finite.{negative_setpoint, loaded_setpoint, nan_setpoint, infinite_setpoint}
+use Rattle.setpoint.proofs.Finite.{negative_setpoint, loaded, loaded_setpoint, nan_setpoint, infinite_setpoint}
 use Rattle.setpoint.proofs.classify.Goals as goal
 
 pub returns-in-NotANumber : goal.returns-in-NotANumber
@@ -17,12 +18,7 @@ returns-then-significand-gt0 c =
     negative_setpoint (value_of c.args.pattern) c.in-Finite.negative c.in-Finite.significand c.in-Finite.exponent c.in-Finite.ensures.0
     c.if-negative-2.true c.if-significand-gt0.true
 
-pub returns-in-Some : goal.returns-in-Some
-returns-in-Some c =
-    loaded_setpoint (value_of c.args.pattern) c.in-Finite.negative c.in-Finite.significand c.in-Finite.exponent (Some c.in-Some.load) c.in-Finite.ensures.0
-    c.else-negative-2.either c.in-Some.ensures
-
-pub returns-in-None : goal.returns-in-None
-returns-in-None c =
-    loaded_setpoint (value_of c.args.pattern) c.in-Finite.negative c.in-Finite.significand c.in-Finite.exponent None c.in-Finite.ensures.0
-    c.else-negative-2.either c.in-None.ensures
+pub returns-else-negative-2 : goal.returns-else-negative-2
+returns-else-negative-2 c =
+    let e : c.map_or.result ≡ loaded c.scaled.result = grind (arith, common_steps) in
+    e ∙ loaded_setpoint (value_of c.args.pattern) c.in-Finite.negative c.in-Finite.significand c.in-Finite.exponent c.scaled.result c.in-Finite.ensures.0 c.else-negative-2.either c.scaled.ensures

@@ -1,12 +1,13 @@
-use Rattle.std.proofs.Common.{sym, ◌∙◌, arith}
-use Rattle.setup.proofs.Twins.{twins_on, twins_all}
+use Rattle.std.proofs.Common.{◌∙◌, refl, arith, rules, tests}
+use Rattle.std.proofs.lemmas.Iterator.{YieldsList-from_range}
+use Rattle.std.proofs.lemmas.Iterator.Search.{any_from_yields_List}
+use Rattle.setup.specs.SetUps.{twin_at?}
+use Rattle.setup.proofs.Twins.{twins_from}
 use Rattle.setup.proofs.any_twins.Goals as goal
-
-pub loop-channel-preserved : goal.loop-channel-preserved
-loop-channel-preserved g c =
-    twins_on (g.R.Rack.records c.args.rack.now) c.loop-channel.channel c.if-has_twin.ensures
-    ∙ c.loop-channel.invariant
 
 pub returns : goal.returns
 returns g c =
-    sym (twins_all (g.R.Rack.records c.args.rack.now) c.loop-channel.channel (omega arith)) ∙ c.loop-channel.invariant
+    let rs = g.R.Rack.records c.args.rack.now in
+    let n = c.count.result in
+    any_from_yields_List (twin_at? rs) _ _ _ c.any.ensures.ran (YieldsList-from_range 0 n n refl (omega arith)) (λ x b q k. search (rules, tests))
+    ∙ twins_from rs c.requires n 0 (omega arith)

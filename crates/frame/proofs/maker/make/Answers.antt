@@ -1,11 +1,11 @@
-use Rattle.std.proofs.Common.{◌≡◌, ℕ, ◌-◌, ◌≤◌, true, ◌⊎◌, length, replicate, arith, rules}
+use Rattle.std.proofs.Common.{◌≡◌, ℕ, ◌-◌, ◌≤◌, true, ◌⊎◌, length, replicate, ap, arith, rules}
 use borrow.Rule.Slice.PartMut.{mid_of}
 use native.Mathlib.Nat.{sub-zero}
 use Rattle.std.proofs.lemmas.List.{take-replicate}
 use Rattle.std.proofs.lemmas.Bool.Decides.{nat_tests}
-use Rattle.refusals.proofs.Filling.{fills_short}
-use Rattle.frame.specs.Making.{request?, start_for, sent, asked}
+use Rattle.frame.specs.Making.{request?, start_for, sent}
 use Rattle.frame.specs.Transmissions.{Request}
+use Rattle.frame.specs.Views.{address_bytes, request_parts}
 use Rattle.refusals.proofs.Placing.{Wrote}
 use Rattle.frame.proofs.Making.{made_fills, made_sound}
 use Rattle.frame.proofs.Transmissions.{length_sent}
@@ -19,23 +19,18 @@ Wide short long w start = ((w ≡ 1) ⊎ (w ≡ 5)) × (start ≡ start_for shor
 formed : (q : Request) → (length q.address ≡ 1) ⊎ (length q.address ≡ 5) → 2 ≤ q.preambles → q.preambles ≤ 20 → length q.«data» ≤ 255 → request? q ≡ true
 formed q w a b d = grind (arith, nat_tests)
 
-pub returns-then-out-preambles : goal.returns-then-out-preambles
-returns-then-out-preambles c =
-    let q = asked c.args.preambles c.args.address.now c.args.command c.args.«data».now in
-    let w : Wide c.args.short c.args.long (length c.args.address.now) c.match-address.start = elim c.match-address.branch [ in-1 w ↦ search rules | in-5 w ↦ search rules ] in
-    record { fills = fills_short (formed q w.0 (omega arith) (omega arith) (omega arith)) (omega (arith, length_sent c.args.short c.args.long q)); sound = tt }
-
 pub returns : goal.returns
 returns c =
     let out = c.args.out.now in
-    let n = c.args.preambles in
-    let q = asked n c.args.address.now c.args.command c.args.«data».now in
-    let w : Wide c.args.short c.args.long (length c.args.address.now) c.match-address.start = elim c.match-address.branch [ in-1 w ↦ search rules | in-5 w ↦ search rules ] in
+    let n = c.args.parts.preambles in
+    let q = request_parts c.args.parts in
+    let e : length c.bytes-address.result.now ≡ length (address_bytes c.args.parts.address) = ap length c.bytes-address.ensures in
+    let w : Wide c.args.kind.short c.args.kind.long (length (address_bytes c.args.parts.address)) c.match-address.start = elim c.match-address.branch [ in-1 w ↦ search rules | in-5 w ↦ search rules ] in
     let f = formed q w.0 (omega arith) (omega arith) (omega arith) in
-    let room : length (sent c.args.short c.args.long q) ≤ length out = omega (arith, length_sent c.args.short c.args.long q) in
+    let room : length (sent c.args.kind.short c.args.kind.long q) ≤ length out = omega (arith, e, length_sent c.args.kind.short c.args.kind.long q) in
     let p : mid_of {X = ℕ} 0 (n - 0) (replicate 20 255) ≡ replicate n 255 = rw sub-zero (take-replicate {X = ℕ} n 20 255 (omega arith)) in
     let led : Wrote 0 (replicate n 255) out c.put-end.new.out c.put-end.result = record { holds = rw (← p) c.put-end.ensures.after; ends = rw (← p) c.put-end.ensures.next } in
     record {
-      fills = made_fills c.args.short c.args.long q c.match-address.start out c.put-end.new.out c.put_frame.new.out c.put-end.result c.put_frame.result f w.1 room led c.put_frame.ensures.after c.put_frame.ensures.next;
-      sound = made_sound c.args.short c.args.long q c.match-address.start out c.put-end.new.out c.put_frame.new.out c.put-end.result c.put_frame.result f w.1 room led c.put_frame.ensures.after c.put_frame.ensures.next;
+      fills = made_fills c.args.kind.short c.args.kind.long q c.match-address.start out c.put-end.new.out c.put_frame.new.out c.put-end.result c.put_frame.result f w.1 room led c.put_frame.ensures.after c.put_frame.ensures.next;
+      sound = made_sound c.args.kind.short c.args.kind.long q c.match-address.start out c.put-end.new.out c.put_frame.new.out c.put-end.result c.put_frame.result f w.1 room led c.put_frame.ensures.after c.put_frame.ensures.next;
     }

@@ -1,7 +1,6 @@
-use Rattle.std.proofs.Common.{◌≡◌, ◌<◌, Err, arith, rules}
+use Rattle.std.proofs.Common.{◌≡◌, ◌<◌, arith, rules}
 use Rattle.std.proofs.ByRecursion.{All-from_get_or}
 use Rattle.std.proofs.lemmas.List.{take_rest}
-use Rattle.refusals.specs.declared.Refusal.TheVariants.{OutOfForm}
 use Rattle.frame.specs.Frames.{request_frame}
 use Rattle.frame.specs.Views.{viewed, frame_parts}
 use Rattle.frame.proofs.Meanings.{frame_means, frame_limit}
@@ -20,9 +19,3 @@ returns-in-2 c =
     let bytes = All-from_get_or (λ b. b < 256) span 0 (λ i _. omega (arith, c.type_inv.span i)) in
     let value : viewed frame_parts c.frame_after-in-2.result ≡ request_frame span = let e = take_rest span 2 in search rules in
     record { value = value; kind = c.frame_after-in-2.ensures.kind (search rules); means = frame_means c.frame_after-in-2.result span value; limit = frame_limit c.frame_after-in-2.result span bytes value }
-
-pub returns-in_default : goal.returns-in_default
-returns-in_default c =
-    let span = c.args.span.now in
-    let value : viewed frame_parts (Err OutOfForm) ≡ request_frame span = search rules in
-    record { value = value; kind = tt; means = frame_means (Err OutOfForm) span value; limit = tt }

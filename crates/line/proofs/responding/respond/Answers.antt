@@ -1,4 +1,4 @@
-use Rattle.std.proofs.Common.{◌≡◌, ◌≤◌, true, length, ap, ◌∙◌, arith, length-take, rules}
+use Rattle.std.proofs.Common.{◌≡◌, ◌≤◌, true, length, refl, ap, ◌∙◌, arith, rules}
 use Rattle.refusals.specs.Refusals.{numbered, number_of}
 use Rattle.frame.specs.Views.{frame_parts}
 use Rattle.record.specs.Lawful.{is_lawful}
@@ -12,15 +12,13 @@ returns c =
     let r = c.args.«record».now in
     let f = frame_parts c.in-Some.frame in
     let out = c.args.out.now in
-    let content = c.act-content.result in
     let room : 64 ≤ length out = omega arith in
     let lawful : is_lawful r ≡ true = search rules in
     let meant : means f r ≡ true = search rules in
-    let bytes = c.bytes-2.ensures in
-    let few : length c.bytes-2.result.now ≤ 26 = let l = length-take content.len content.bytes in let k = ap length bytes in omega (arith, content.within) in
-    let a = answer_given (heard c.args.received) c.args.header r c.act-content.new.«record» f out c.make_reply.new.out c.from.result c.bytes.result.now c.bytes-2.result.now (numbered c.make_reply.result)
-    room lawful c.in-Some.ensures.value c.in-Some.ensures.whole.1 meant c.act-content.ensures.after c.act-content.ensures.lawful c.from.ensures c.bytes.ensures
-    (bytes ∙ c.act-content.ensures.bytes) few c.make_reply.ensures.fills c.in_ok-len.len (ap numbered c.in_ok-len.was) c.in_ok-len.ensures.sound in
+    let bytes = c.as_slice.ensures.value in
+    let a = answer_given (heard c.args.received) c.args.header r c.act-content.new.«record» f out c.make_reply.new.out c.from.result f.address c.as_slice.result.now (numbered c.make_reply.result)
+    room lawful c.in-Some.ensures.value c.in-Some.ensures.whole.1 meant c.act-content.ensures.after c.act-content.ensures.lawful c.from.ensures refl
+    (bytes ∙ c.act-content.ensures.bytes) c.as_slice.ensures.fits c.make_reply.ensures.fills c.in_ok-len.len (ap numbered c.in_ok-len.was) c.in_ok-len.ensures.sound in
     record { responds = a.0; lawful = λ _. c.act-content.ensures.lawful; answer = a.1 }
 
 pub returns-in_err-len : goal.returns-in_err-len
@@ -28,12 +26,10 @@ returns-in_err-len c =
     let r = c.args.«record».now in
     let f = frame_parts c.in-Some.frame in
     let out = c.args.out.now in
-    let content = c.act-content.result in
     let room : 64 ≤ length out = omega arith in
     let lawful : is_lawful r ≡ true = search rules in
     let meant : means f r ≡ true = search rules in
-    let bytes = c.bytes-2.ensures in
-    let few : length c.bytes-2.result.now ≤ 26 = let l = length-take content.len content.bytes in let k = ap length bytes in omega (arith, content.within) in
-    absurd (answer_fits (heard c.args.received) c.args.header r c.act-content.new.«record» f out c.make_reply.new.out c.from.result c.bytes.result.now c.bytes-2.result.now (numbered c.make_reply.result)
-    room lawful c.in-Some.ensures.value c.in-Some.ensures.whole.1 meant c.act-content.ensures.after c.act-content.ensures.lawful c.from.ensures c.bytes.ensures
-    (bytes ∙ c.act-content.ensures.bytes) few c.make_reply.ensures.fills (number_of c.in_err-len.field-0.0) (ap numbered c.in_err-len.was))
+    let bytes = c.as_slice.ensures.value in
+    absurd (answer_fits (heard c.args.received) c.args.header r c.act-content.new.«record» f out c.make_reply.new.out c.from.result f.address c.as_slice.result.now (numbered c.make_reply.result)
+    room lawful c.in-Some.ensures.value c.in-Some.ensures.whole.1 meant c.act-content.ensures.after c.act-content.ensures.lawful c.from.ensures refl
+    (bytes ∙ c.act-content.ensures.bytes) c.as_slice.ensures.fits c.make_reply.ensures.fills (number_of c.in_err-len.field-0.0) (ap numbered c.in_err-len.was))

@@ -5,5 +5,4 @@ use Rattle.panel.proofs.driving.work.Given as goal
 -- the run so far, of as many calls as there were turns
 abbrev pub invariant-loop : goal.invariant-loop
 invariant-loop g l =
-    (w : Worked l.supply (g.R.Rack.records l.initial.panel.rack) (g.R.Rack.records l.panel.rack) l.panel.supply l.panel.receiver (g.D.Driver.told l.initial.driver) (g.D.Driver.told l.driver))
-    × (l.counter ≤ length w.trace)
+    (w : Worked g.R.Rack.records l.supply l.fn.panel l.panel (g.D.Driver.told l.fn.driver) (g.D.Driver.told l.driver)) × (l.counter ≤ length w.trace)

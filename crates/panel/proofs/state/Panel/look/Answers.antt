@@ -1,34 +1,27 @@
-use Rattle.std.proofs.Common.{◌≡◌, ◌<◌, ◌≤◌, true, ◌&&◌, leb, length, is_some, sym, ◌∙◌, arith, rules}
-use Rattle.runs.specs.Places.{element_at}
-use Rattle.panel.specs.Panels.{channels_of}
-use Rattle.panel.proofs.Places.{channel_here, look_none, look_short, look_filled}
+use Rattle.std.proofs.Common.{sym}
+use Rattle.std.proofs.lemmas.Result.{err_from_is_err_and}
+use Rattle.panel.proofs.Places.{looked, missing, short, filled}
 use Rattle.panel.proofs.state.Panel.look.Goals as goal
 
-pub returns-in_default : goal.returns-in_default
-returns-in_default g c =
+pub returns-in_err-record : goal.returns-in_err-record
+returns-in_err-record g c =
     let p = c.args.self.now in
-    let rs = g.R.Rack.records p.rack in
-    let k = c.args.channel in
-    let up : (is_some p.supply && leb (length rs) 15) ≡ true = search rules in
-    let l = look_none c.args.out.now (element_at (channels_of p.supply rs) k) (c.in_default.ensures ∙ sym (channel_here p.supply rs k up)) in
-    record { answer = l.0; buffer = l.1 }
+    let e = err_from_is_err_and c.from_residual.result c.from_residual.ensures.1 in
+    let l = looked p.supply (g.R.Rack.records p.rack) c.args.channel c.if-not-is_set_up.ensures c.record_of.result c.record_of.ensures (missing {buffer = c.args.out.now} c.record_of.result c.in_err-record.field-0.0 c.in_err-record.ensures.value) in
+    record { answer = rw (e.1, e.2) l.answer; buffer = l.leaves }
 
-pub returns-then-out-lt-RECORD_LENGTH : goal.returns-then-out-lt-RECORD_LENGTH
-returns-then-out-lt-RECORD_LENGTH g c =
+pub returns-in_err-front : goal.returns-in_err-front
+returns-in_err-front g c =
     let p = c.args.self.now in
-    let rs = g.R.Rack.records p.rack in
-    let k = c.args.channel in
-    let up : (is_some p.supply && leb (length rs) 15) ≡ true = search rules in
-    let short : length c.args.out.now < 80 = omega arith in
-    let l = look_short c.args.out.now (element_at (channels_of p.supply rs) k) c.in-Some.«record» (c.in-Some.ensures ∙ sym (channel_here p.supply rs k up)) short in
-    record { answer = l.0; buffer = l.1 }
+    let e = err_from_is_err_and c.from_residual-in_err-front.result c.from_residual-in_err-front.ensures.1 in
+    let l = looked p.supply (g.R.Rack.records p.rack) c.args.channel c.if-not-is_set_up.ensures c.record_of.result c.record_of.ensures
+    (short {buffer = c.args.out.now} c.record_of.result c.in_ok-record.«record» c.in_ok-record.ensures.value _ c.first_chunk_mut.result c.in_err-front.field-0.0 c.first_chunk_mut.ensures.cases c.in_err-front.ensures.value) in
+    record { answer = rw (e.1, e.2) l.answer; buffer = l.leaves }
 
 pub returns : goal.returns
 returns g c =
     let p = c.args.self.now in
-    let rs = g.R.Rack.records p.rack in
-    let k = c.args.channel in
-    let up : (is_some p.supply && leb (length rs) 15) ≡ true = search rules in
-    let room : 80 ≤ length c.args.out.now = omega arith in
-    let l = look_filled c.args.out.now c.copy_from_slice.new.self (element_at (channels_of p.supply rs) k) c.in-Some.«record» (c.in-Some.ensures ∙ sym (channel_here p.supply rs k up)) room (c.copy_from_slice.ensures.after ∙ c.encode.ensures.value) in
-    record { answer = l.0; buffer = l.1 }
+    let room = c.first_chunk_mut.ensures.variant.0 (sym c.in_ok-front.ensures.variant) in
+    let l = looked p.supply (g.R.Rack.records p.rack) c.args.channel c.if-not-is_set_up.ensures c.record_of.result c.record_of.ensures
+    (filled {buffer = c.args.out.now} c.record_of.result c.in_ok-record.«record» c.in_ok-record.ensures.value room c.encode.ensures.value) in
+    record { answer = l.answer; buffer = l.leaves }

@@ -1,5 +1,6 @@
+use Rattle.std.proofs.Common.{refl}
 use Rattle.runs.specs.Channel.{sample}
 use Rattle.panel.proofs.state.Panel.sample.Goals as goal
 
-pub returns : goal.returns
-returns g c = record { does = c.operate.ensures.does (sample c.args.reading) c.sample_change.ensures; same = c.operate.ensures.same }
+pub returns-clause-does : goal.returns-clause-does
+returns-clause-does g c = c.operate.ensures.does (sample c.args.reading) refl

@@ -1,6 +1,6 @@
-use Rattle.std.proofs.Common.{vec_items, refl}
-use Rattle.player.proofs.Printing.{told_nothing}
+use Rattle.std.proofs.Common.{[]}
+use Rattle.player.specs.Printing.{begins}
 use Rattle.player.proofs.tape.Player.new.Goals as goal
 
-pub returns : goal.returns
-returns g c = record { told = λ w. told_nothing (g.T.Tape.written c.args.tape) (vec_items c.new-2.result) c.new-2.ensures.items w; fresh = refl }
+pub returns-clause-told : goal.returns-clause-told
+returns-clause-told g c = λ w _. ([], (w, rw c.new-2.ensures.items begins))

@@ -1,11 +1,9 @@
-use Rattle.std.proofs.Common.{◌-◌, vec_items}
-use Rattle.runs.specs.Channel.{channel}
-use Rattle.runs.specs.Traces.{Trace}
-use Rattle.player.specs.Printing.{Told}
+use Rattle.std.proofs.Common.{◌-◌}
+use Rattle.player.specs.Printing.{StaysTold}
 use Rattle.player.proofs.tape.Player.next_event.Given as goal
 
-abbrev pub invariant-loop-self : goal.invariant-loop-self
-invariant-loop-self g l = (h : Trace channel) → Told (g.T.Tape.written l.initial.self.tape) l.initial.self.lost (vec_items l.initial.self.lines) h → Told (g.T.Tape.written l.self.tape) l.self.lost (vec_items l.self.lines) h
+abbrev pub invariant-loop-at : goal.invariant-loop-at
+invariant-loop-at g l = StaysTold g.T.Tape.written l.initial.self l.self
 
-abbrev pub decreases-loop-self : goal.decreases-loop-self
-decreases-loop-self g l = l.self.len - l.self.at
+abbrev pub decreases-loop-at : goal.decreases-loop-at
+decreases-loop-at g l = l.self.unread.end - l.self.unread.start

@@ -2,8 +2,5 @@ use Rattle.std.proofs.Common.{arith}
 use Rattle.receiver.proofs.Holding.{holds_more}
 use Rattle.receiver.proofs.state.Receiver.push.Goals as goal
 
-pub returns : goal.returns
-returns c = record {
-  after = c.keep.ensures;
-  holds = holds_more c.args.self.now c.keep.new.self (record { byte = c.args.byte; marks = c.args.marks }) (omega arith) c.keep.ensures;
-}
+pub returns-clause-holds : goal.returns-clause-holds
+returns-clause-holds c = holds_more c.args.self.now c.keep.new.self (record { byte = c.args.byte; marks = c.args.marks }) (omega arith) c.keep.ensures

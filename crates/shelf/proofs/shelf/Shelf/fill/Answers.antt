@@ -1,32 +1,24 @@
-use Rattle.std.proofs.Common.{◌≡◌, ◌+◌, ◌-◌, ◌*◌, ◌/◌, ◌<◌, length, refl, ◌∙◌, arith, length-set}
+use Rattle.std.proofs.Common.{◌≡◌, Some, sym, ap, ◌∙◌, arith}
 use Rattle.std.proofs.lemmas.Result.{err_from_is_err_and}
-use Rattle.shelf.proofs.FileRows.{rows_more, none_more, found, lawful_more, file_refused}
+use Rattle.std.proofs.lemmas.Bool.Decides.{nat_tests}
+use Rattle.std.proofs.lemmas.Grind.{common_steps}
+use Rattle.rack.specs.Files.{first_bad, rows_of}
+use Rattle.shelf.proofs.FileRows.{none_more, found, lawful_more}
 use Rattle.shelf.proofs.shelf.Shelf.fill.Goals as goal
 
-pub returns-in_err-check_record : goal.returns-in_err-check_record
-returns-in_err-check_record c =
-    let p = err_from_is_err_and c.from_residual.result c.from_residual.ensures.1 in
-    let file = c.args.file.now in
-    let i = c.loop-i.i in
-    let count = length file / 80 in
-    let k : i * 80 + 80 - i * 80 ≡ 80 = omega arith in
-    let row = c.copy_from_slice.new.self in
+pub returns-in_err-check_record-clause-answer : goal.returns-in_err-check_record-clause-answer
+returns-in_err-check_record-clause-answer c =
+    let p = err_from_is_err_and c.from_residual-in_err-check_record.result c.from_residual-in_err-check_record.ensures.1 in
+    let rows = c.as_chunks.result.0.now in
     let e = c.in_err-check_record.field-0.0 in
-    let f = found file c.loop-i.rows count i row c.loop-i-test.true (rw k at c.copy_from_slice.ensures.after) e c.in_err-check_record.ensures.fault c.loop-i.invariant.2 in
-    rw (p.1, p.2) (record { answer = file_refused file e (omega arith) (omega arith) (omega arith) f; after = refl; same = λ _. refl })
+    let f : first_bad 0 (rows_of c.args.file.now) ≡ Some e = ap (first_bad 0) (sym c.as_chunks.ensures.front) ∙ found rows c.loop-number.number (omega arith) c.loop-number.invariant.faultless e c.in_err-check_record.ensures.fault in
+    rw (p.1, p.2) (grind (arith, common_steps, nat_tests))
 
-pub loop-i-preserved : goal.loop-i-preserved
-loop-i-preserved c =
-    let file = c.args.file.now in
-    let rows = c.loop-i.rows in
-    let i = c.loop-i.i in
-    let count = length file / 80 in
-    let k : i * 80 + 80 - i * 80 ≡ 80 = omega arith in
-    let row = c.copy_from_slice.new.self in
-    let is = rw k at c.copy_from_slice.ensures.after in
-    let room : i < length rows = omega (arith, c.loop-i.invariant.0) in (
-      length-set rows i row ∙ c.loop-i.invariant.0,
-      rows_more file rows count i row c.loop-i-test.true is room c.loop-i.invariant.1,
-      none_more file rows count i row c.loop-i-test.true is c.in_ok-check_record.ensures.fault c.loop-i.invariant.2,
-      lawful_more rows i row room c.in_ok-check_record.ensures.lawful c.loop-i.invariant.3,
-    )
+pub loop-number-preserved : goal.loop-number-preserved
+loop-number-preserved c =
+    let rows = c.as_chunks.result.0.now in
+    let i = c.loop-number.number in
+    record {
+      faultless = none_more rows i (omega arith) c.loop-number.invariant.faultless c.in_ok-check_record.ensures.fault;
+      lawful = lawful_more rows i (omega arith) c.loop-number.invariant.lawful c.in_ok-check_record.ensures.lawful;
+    }

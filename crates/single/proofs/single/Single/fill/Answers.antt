@@ -1,29 +1,23 @@
-use Rattle.std.proofs.Common.{◌≡◌, List, [], ◌∷◌, length, None, sym, refl, ap, ◌∙◌, arith}
+use Rattle.std.proofs.Common.{ap, ◌∙◌}
+use Rattle.std.proofs.lemmas.Option.{MatchOption-at_some}
 use Rattle.std.proofs.lemmas.Result.{err_from_is_err_and}
-use Rattle.std.proofs.lemmas.Bool.{true≢false}
-use Rattle.record.specs.Faults.{fault_of}
-use Rattle.record.specs.Layout.{decoded}
-use Rattle.rack.specs.Files.{fault_in, or_fault}
+use Rattle.rack.specs.Files.{or_fault}
 use Rattle.single.proofs.OneRecord.{one_answer, one_records}
 use Rattle.single.proofs.single.Single.fill.Goals as goal
 
-pub returns-in_err-check_record : goal.returns-in_err-check_record
-returns-in_err-check_record c =
-    let p = err_from_is_err_and c.from_residual.result c.from_residual.ensures.1 in
-    let file = c.args.file.now in
-    let one : length file ≡ 80 = omega arith in
-    let row = c.copy_from_slice.ensures.after in
-    let a = ap or_fault (c.in_err-check_record.ensures.fault ∙ ap (λ (x : List _). fault_in 0 (fault_of x) None) row) ∙ sym (one_answer file one) in
-    rw (p.1, p.2) (record { answer = a; after = refl; same = λ _. refl })
+pub returns-in_err-check_record-clause-answer : goal.returns-in_err-check_record-clause-answer
+returns-in_err-check_record-clause-answer c =
+    let p = err_from_is_err_and c.from_residual-in_err-check_record.result c.from_residual-in_err-check_record.ensures.1 in
+    let whole = MatchOption-at_some _ _ c.in_ok-row.row c.in_ok-row.ensures.ok_part c.as_array.ensures.cases in
+    rw (p.1, p.2) (ap or_fault c.in_err-check_record.ensures.fault ∙ one_answer c.args.file.now c.in_ok-row.row.now whole)
 
-pub returns : goal.returns
-returns c =
-    let file = c.args.file.now in
-    let one : length file ≡ 80 = omega arith in
-    let row = c.copy_from_slice.ensures.after in
-    let a = ap or_fault (c.in_ok-check_record.ensures.fault ∙ ap (λ (x : List _). fault_in 0 (fault_of x) None) row) ∙ sym (one_answer file one) in
-    record {
-      answer = a;
-      after = ap (λ r. r ∷ []) (c.record_at-self.ensures ∙ ap decoded row) ∙ sym (one_records file one);
-      same = λ e. absurd (true≢false e);
-    }
+pub returns-clause-answer : goal.returns-clause-answer
+returns-clause-answer c =
+    let whole = MatchOption-at_some _ _ c.in_ok-row.row c.in_ok-row.ensures.ok_part c.as_array.ensures.cases in
+    ap or_fault c.in_ok-check_record.ensures.fault ∙ one_answer c.args.file.now c.in_ok-row.row.now whole
+
+pub returns-clause-after : goal.returns-clause-after
+returns-clause-after c =
+    let whole = MatchOption-at_some _ _ c.in_ok-row.row c.in_ok-row.ensures.ok_part c.as_array.ensures.cases in
+    let records = one_records c.args.file.now c.in_ok-row.row.now whole in
+    cc

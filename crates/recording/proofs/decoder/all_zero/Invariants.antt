@@ -1,6 +1,0 @@
-use Rattle.std.proofs.Common.{◌≡◌, drop}
-use Rattle.record.specs.Bytes.{zeros?}
-use Rattle.recording.proofs.decoder.all_zero.Given as goal
-
-abbrev pub invariant-loop-byte : goal.invariant-loop-byte
-invariant-loop-byte l = zeros? (drop l.byte-index l.bytes) ≡ zeros? l.bytes
