@@ -25,6 +25,7 @@ impl ResponseCode {
     }
 }
 
+// As a rack's refusal is made of one: the two enums have other cases beside these, so there are two impls.
 impl From<SetpointRefusal> for ResponseCode {
     ghost from_gives = { λ e r. code_number r ≡ code_of e };
 

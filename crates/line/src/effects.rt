@@ -21,6 +21,7 @@ pub fn change_of<'a>(request: Request<'a>) -> Option<Change<'a>>
     }
 }
 
+// The two cases of `change_of`, with its clauses of the one case each; in one `match` each arm would name two things to match.
 fn text_change<'a>(command: u8, text: &'a [u8]) -> Option<Change<'a>>
     ensures some { is_some result ≡ stores? (text_write command text.now) }
     ensures same { IfSome result (λ change. (r : ChannelRecord) → written change r ≡ stored_by (text_write command text.now) r) }

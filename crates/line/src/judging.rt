@@ -7,7 +7,7 @@ ghost use Rattle.line.specs.Codes.{code_number, code_of, weighed, percent?};
 
 use crate::codes::{Header, ResponseCode};
 use crate::commands::*;
-use record::{Fields, Record};
+use record::{Fields, MAX_POLLING_ADDRESS, MAX_PREAMBLES, MIN_PREAMBLES, Record};
 
 // The response code of a sound request to a channel, by one `match`, a rule of the project: each arm is one line of the order in
 // which codes are tried. Of command and data, and not of a frame, whose address and check have no part in it.
@@ -38,9 +38,9 @@ pub fn response_code(command: u8, data: &[u8], record: &Record, header: Header) 
         | WRITE_PREAMBLES
         | WRITE_SETPOINT
             if !record.fields.key_open => { ResponseCode::WriteProtected }
-        WRITE_POLLING_ADDRESS if data[0] > 15 => ResponseCode::InvalidSelection,
-        WRITE_PREAMBLES if data[0] < 2 => ResponseCode::TooSmall,
-        WRITE_PREAMBLES if data[0] > 15 => ResponseCode::TooLarge,
+        WRITE_POLLING_ADDRESS if data[0] > MAX_POLLING_ADDRESS => ResponseCode::InvalidSelection,
+        WRITE_PREAMBLES if data[0] < MIN_PREAMBLES => ResponseCode::TooSmall,
+        WRITE_PREAMBLES if data[0] > MAX_PREAMBLES => ResponseCode::TooLarge,
         WRITE_SETPOINT if data[0] != PERCENT => ResponseCode::InvalidSelection,
         WRITE_SETPOINT => setpoint_code(data, record.fields, header),
         WRITE_POLLING_ADDRESS

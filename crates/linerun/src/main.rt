@@ -3,14 +3,10 @@
 
 use anyhow::ensure;
 use player::{Player, Tape, play};
+use setup::MOST_SUPPLY;
+use shelf::RACK_FILE;
 use std::fs;
 use std::io::{self, Read, Write};
-
-// The record file, in the folder that the program is run in.
-const RACK_FILE: &str = "rack.rec";
-
-// The largest supply, in mL/min: fifteen channels always fit it.
-const SUPPLY: u32 = 15_000_000;
 
 // Standard input and output.
 #[derive(Drop)]
@@ -35,7 +31,8 @@ fn main(rt: HostRuntime) -> anyhow::Result<()> {
 fn run(rt: &HostRuntime) -> anyhow::Result<()> {
     let file = fs::read(rt, RACK_FILE)?;
     let mut player = Player::new(rt.alloc(), Console { rt: rt.clone()? });
-    if let Err(fault) = play(file.as_slice(), SUPPLY, &mut player) {
+    // Under the largest supply fifteen channels always fit.
+    if let Err(fault) = play(file.as_slice(), MOST_SUPPLY, &mut player) {
         println!(rt; "refused {}", fault.refusal().number())?;
         return Ok(());
     }

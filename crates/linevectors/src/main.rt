@@ -12,10 +12,7 @@ use line::{Header, Received, Request};
 use record::{RECORD_LENGTH, Record};
 use refusals::Refusal;
 use std::alloc::Global;
-use words::{from_bytes, to_bytes};
-
-// What a lent buffer is filled with.
-const UNTOUCHED: u8 = 0xA5;
+use words::{UNTOUCHED, from_bytes, to_bytes};
 
 fn main(rt: HostRuntime) -> anyhow::Result<()> {
     run(&rt)

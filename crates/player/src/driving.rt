@@ -34,12 +34,7 @@ impl<T: Tape + Drop> Player<T> {
     fn next_event(&mut self) -> Option<[u8; EVENT_LENGTH]>
         ensures { StaysTold T.Tape.written self.old self.new }
     {
-        while let Some(at) = self.unread.next() {
-            if let Some(event) = self.pending.push(self.block[at]) {
-                return Some(event);
-            }
-        }
-        None
+        self.unread.find_map(|at| self.pending.push(self.block[at]))
     }
 
     // The line of an event that is no call.

@@ -2,7 +2,7 @@ ghost use Rattle.std.specs.Prelude.{◌≡◌};
 ghost use Rattle.record.specs.Lawful.{Lawful};
 ghost use Rattle.rack.specs.Blank.{blank_record};
 
-use record::{Fields, Reading, Record, value_of};
+use record::{Fields, MIN_PREAMBLES, Reading, Record, TEXT_LENGTH, value_of};
 
 // A lawful record to begin with: everything at 0 but two preambles and a full scale of 1 mL/min.
 pub fn blank_record() -> Record
@@ -14,7 +14,7 @@ pub fn blank_record() -> Record
             device_type: 0,
             identification: 0,
             polling_address: 0,
-            preambles: 2,
+            preambles: MIN_PREAMBLES,
             assembly_number: 0,
             changed: false,
             key_open: false,
@@ -27,6 +27,6 @@ pub fn blank_record() -> Record
             flow: value_of(0),
             temperature: value_of(0),
         },
-        text: [0; 45],
+        text: [0; TEXT_LENGTH],
     }
 }

@@ -6,7 +6,7 @@ ghost use Rattle.record.specs.Layout.{decoded};
 ghost use Rattle.rack.specs.Files.{refusal_of, fault_in};
 ghost use Rattle.rack.specs.declared.files.FileFault.TheVariants.{Record as Bad};
 
-use record::{RECORD_LENGTH, RecordFault, fault_in};
+use record::{RECORD_LENGTH, RecordFault};
 use refusals::Refusal;
 use std::error::Error;
 use std::fmt;
@@ -62,13 +62,10 @@ impl From<RecordError> for FileFault {
     }
 }
 
-// Whether a record of a file is lawful. A `match`: `map_or(Ok(()), ..)` would say first what comes last.
+// Whether a record of a file is lawful.
 pub fn check_record(number: usize, row: &[u8; RECORD_LENGTH]) -> Result<(), RecordError>
     ensures fault { result_err result ≡ fault_in number (fault_of row.now) None }
     ensures lawful { OnOk result (Lawful (decoded row.now)) }
 {
-    match fault_in(row) {
-        Some(fault) => Err(RecordError { number, fault }),
-        None => Ok(()),
-    }
+    record::check(row).map_err(|fault| RecordError { number, fault })
 }

@@ -6,7 +6,8 @@ ghost use Rattle.setpoint.specs.Refusals.{code_of};
 use refusals::Refusal;
 use setpoint::SetpointRefusal;
 
-// Why a rack refuses: by a response code of the line, or as any call refuses.
+// Why a rack refuses: by a response code of the line, or as any call refuses. Without numbers of its own, as an enum of numbers
+// has no case that holds a refusal.
 #[derive(Clone, Copy, PartialEq, Debug)]
 pub enum RackRefusal {
     InvalidSelection,

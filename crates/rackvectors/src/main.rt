@@ -37,8 +37,8 @@ fn run(rt: &HostRuntime) -> anyhow::Result<()> {
     Ok(())
 }
 
-// The arms on setpoints, records and files stand in another program too: what they print is said by the types of `tables`, and a
-// function that prints could promise no more.
+// The arms on setpoints, records and files stand in another program too: each is a call and the type of `tables` that prints its
+// answer, and a function in the place of an arm would be as long.
 fn call(rt: &HostRuntime, words: &[&str]) -> anyhow::Result<()> {
     match words {
         ["load", pattern] => println!(rt; "{}", Classified(classify(to_pattern(pattern)?)))?,

@@ -4,7 +4,8 @@ ghost use Rattle.std.specs.Option.{ForSome};
 // No whole transmission has more bytes from its start on.
 pub(crate) const MOST_SPAN: usize = 264;
 
-// What is kept of the characters of a transmission. A longer span is not whole, so that its first bytes are enough.
+// What is kept of the characters of a transmission. A longer span is not whole, so that its first bytes are enough. They stand
+// in an array, a rule of the project, and not in an `ArrayVec`, which is not `Copy`, as this is.
 #[derive(Clone, Copy)]
 pub struct Receiver {
     // Up to two: more are not told apart.

@@ -10,6 +10,7 @@ pub fn u24_to_be_bytes(n: u32) -> [u8; 3]
     [high, middle, low]
 }
 
+// Not one function over the number of bytes: a number of 24 bits is read as one of 32.
 pub(crate) fn u24_at(bytes: &[u8], at: usize) -> u32
     requires { at + 3 ≤ length bytes.now }
     ensures { result ≡ number24 bytes.now at }

@@ -5,7 +5,7 @@ ghost use Rattle.record.specs.Inverse.{EncodesAgain};
 ghost use Rattle.record.specs.Layout.{fields_at, decoded};
 
 use crate::bytes::{bit, u24_at, u32_at};
-use crate::faults::fault_in;
+use crate::faults::check;
 use crate::layout::*;
 use crate::{Fields, Reading, Record, RecordFault, value_of};
 
@@ -16,9 +16,7 @@ pub fn decode(bytes: &[u8; RECORD_LENGTH], record: &mut Record) -> Result<(), Re
     ensures after { «record».new ≡ (if is_ok result then decoded bytes.now else «record».old) }
     ensures again { OnOk result (EncodesAgain bytes.now «record».new) }
 {
-    if let Some(fault) = fault_in(bytes) {
-        return Err(fault);
-    }
+    check(bytes)?;
     *record = record_at(bytes);
     Ok(())
 }

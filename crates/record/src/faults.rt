@@ -1,4 +1,5 @@
-ghost use Rattle.std.specs.Prelude.{◌≡◌, Some};
+ghost use Rattle.std.specs.Prelude.{◌≡◌};
+ghost use Rattle.std.specs.Result.{result_err};
 ghost use Rattle.record.specs.Faults.{offset_of, offends, fault_of};
 
 use crate::bytes::{all_zero, u32_at};
@@ -52,8 +53,17 @@ const FAULTS: [RecordFault; 9] = [
     RecordFault::Reserved,
 ];
 
-// The first field that is out of range: found, and made an error by those who ask for a lawful record.
-pub fn fault_in(bytes: &[u8; RECORD_LENGTH]) -> Option<RecordFault>
+// Whether the bytes of a record are lawful; if not, by the first field that is out of range.
+pub fn check(bytes: &[u8; RECORD_LENGTH]) -> Result<(), RecordFault>
+    ensures { result_err result ≡ fault_of bytes.now }
+{
+    match fault_in(bytes) {
+        Some(fault) => Err(fault),
+        None => Ok(()),
+    }
+}
+
+fn fault_in(bytes: &[u8; RECORD_LENGTH]) -> Option<RecordFault>
     ensures { result ≡ fault_of bytes.now }
 {
     FAULTS.iter().copied().find(|fault| offends(bytes, *fault))

@@ -15,7 +15,7 @@ mod readings;
 pub use bytes::u24_to_be_bytes;
 pub use decoder::{decode, record_at};
 pub use encoder::encode;
-pub use faults::{RecordFault, fault_in};
+pub use faults::{RecordFault, check};
 use layout::MAX_CEILING;
 pub use layout::{
     MAX_POLLING_ADDRESS, MAX_PREAMBLES, MAX_U24, MIN_PREAMBLES, RECORD_LENGTH, TEXT_LENGTH,

@@ -13,7 +13,7 @@ use record::Fields;
 use refusals::Refusal;
 
 // The largest supply that a header gives, in mL/min.
-const MOST_SUPPLY: u32 = 15_000_000;
+pub const MOST_SUPPLY: u32 = 15_000_000;
 
 // Whether the set-up of a rack under a supply, in mL/min, is taken: exactly where `SetUp` holds. The first refusal that applies:
 // supply, number of records, identities, shares.
@@ -44,7 +44,8 @@ fn shares_fit<R: Rack>(rack: &R, supply: u32) -> bool
     header::total_share(rack).is_ok_and(|total| header::fits(supply, total))
 }
 
-// Whether some two channels have the same identity.
+// Whether some two channels have the same identity. Of a rack of at most 15 channels, as the two below: a type for such a rack
+// would be a rack again, with all its methods.
 fn any_twins<R: Rack>(rack: &R) -> bool
     requires { length (R.Rack.records rack.now) ≤ 15 }
     ensures { result ≡ twins? (R.Rack.records rack.now) }

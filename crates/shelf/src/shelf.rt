@@ -12,6 +12,9 @@ use record::RECORD_LENGTH;
 // The most records of a shelf.
 pub const MOST_RECORDS: usize = MOST_CHANNELS as usize;
 
+// The record file of a program that has a shelf, in the folder that it is run in.
+pub const RACK_FILE: &str = "rack.rec";
+
 // A shelf: 1 to 15 records, held as bytes.
 #[derive(Drop)]
 pub struct Shelf {

@@ -13,10 +13,7 @@ use digits::{MasterName, Width};
 use frame::{Address, Transmission};
 use refusals::Refusal;
 use tables::bytes_of;
-use words::from_bytes;
-
-// What every byte of a lent buffer is before the call.
-const UNTOUCHED: u8 = 0xA5;
+use words::{UNTOUCHED, from_bytes};
 
 fn main(rt: HostRuntime) -> anyhow::Result<()> {
     run(&rt)

@@ -1,11 +1,9 @@
+use anyhow::Context;
 use digits::Letters;
 use rack::Rack;
 use record::{Fields, value_of};
-use shelf::Shelf;
-use std::{fs, io};
-
-// The record file of the sample panel, beside which the program is run.
-const RACK_FILE: &str = "rack.rec";
+use shelf::{RACK_FILE, Shelf};
+use std::{array, fs, io};
 
 // What the header can give, in mL/min.
 const SUPPLY: u32 = 600_000;
@@ -18,23 +16,20 @@ pub(crate) fn show_rack(rt: &HostRuntime) -> anyhow::Result<()> {
     let count = shelf.count();
     println!(rt; "\n5. The panel's rack, {count} channels from {RACK_FILE}:")?;
     for channel in 0..count {
-        if let Ok(fields) = shelf.fields(channel) {
-            show_tag(rt, &shelf, channel)?;
-            show_channel(rt, fields, header::channel_share(&shelf, channel))?;
-        }
+        show_tag(rt, &shelf, channel)?;
+        let fields = shelf
+            .fields(channel)
+            .ok()
+            .context("a channel that is not there")?;
+        show_channel(rt, fields, header::channel_share(&shelf, channel))?;
     }
     show_header(rt, header::total_share(&shelf)?)?;
     Ok(())
 }
 
-// A loop of its own: `serving`, which reads text too, is about requests, and here is a rack alone.
+// Not by `serving`, which reads text too: that is about requests, and here is a rack alone.
 fn show_tag<R: Rack>(rt: &HostRuntime, rack: &R, channel: u8) -> anyhow::Result<()> {
-    let mut packed = [0; 6];
-    for (byte, place) in packed.iter_mut().zip(0u8..) {
-        if let Ok(told) = rack.text_byte(channel, place) {
-            *byte = told;
-        }
-    }
+    let packed: [u8; 6] = array::from_fn(|place| rack.text_byte(channel, place as u8).unwrap_or(0));
     let mut letters = [0; 8];
     text::unpack(&packed, &mut letters)?;
     println!(rt; "     channel {channel}, tag {}", Letters(&letters))?;

@@ -13,7 +13,7 @@ const TAG: [u8; 8] = *b"MFC-1234";
 // The long address of every channel, from the primary master.
 const EVERY_CHANNEL: [u8; 5] = [0x80, 0, 0, 0, 0];
 
-// "Read unique identifier associated with tag".
+// "Read unique identifier associated with tag". A number of its own here, where a master asks: `line` is what channels do.
 const TAG_QUESTION: u8 = 11;
 
 const PREAMBLES: usize = 5;

@@ -12,6 +12,9 @@ use std::alloc::{AllocError, Global};
 use std::error::Error;
 use std::fmt;
 
+// What stands in a buffer before a call writes into it.
+pub const UNTOUCHED: u8 = 0xA5;
+
 // Why a word was not read. Not a `HexFault`: a word that is no pattern is told apart, and the words of a message are others.
 #[derive(Clone, Copy, PartialEq, Eq, Debug)]
 pub enum WordFault {

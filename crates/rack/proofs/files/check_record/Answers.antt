@@ -1,9 +1,22 @@
-use Rattle.std.proofs.Common.{◌<◌, sym}
+use Rattle.std.proofs.Common.{◌≡◌, ◌<◌, ℕ, Option, Some, None, refl, rules}
+use Rattle.std.specs.Prelude.{Result, Ok, Err}
+use Rattle.std.specs.Result.{result_err, OnOk}
+use Rattle.std.proofs.lemmas.Option.{none-some}
 use Rattle.std.proofs.ByRecursion.{All-from_get_or}
+use Rattle.record.specs.declared.faults.RecordFault.{RecordFault}
+use Rattle.record.specs.Faults.{fault_of}
 use Rattle.record.proofs.Faultless.{from_faultless}
+use Rattle.rack.specs.declared.files.RecordError.{RecordError}
+use Rattle.rack.specs.Files.{fault_in}
 use Rattle.rack.proofs.files.check_record.Goals as goal
 
-pub returns-in-None-clause-lawful : goal.returns-in-None-clause-lawful
-returns-in-None-clause-lawful c =
+-- where no error is made of a fault, there was none
+none_made : (number : ℕ) (fault : Option RecordFault) {P : Type 0} → (fault ≡ None → P) → (r : Result (Unit {0}) RecordError) → result_err r ≡ fault_in number fault None → OnOk r P
+none_made number None p (Ok x) e = p refl
+none_made number (Some f) p (Ok x) e = absurd (none-some _ e)
+none_made number fault p (Err x) e = tt
+
+pub returns-clause-lawful : goal.returns-clause-lawful
+returns-clause-lawful c =
     let row = c.args.row.now in
-    (from_faultless row c.told-row (All-from_get_or (λ b. b < 256) row 0 (λ i _. c.fits-row i)) (sym c.in-None.ensures)).lawful
+    none_made c.args.number (fault_of row) (λ none. (from_faultless row c.told-row (All-from_get_or (λ b. b < 256) row 0 (λ i _. c.fits-row i)) none).lawful) c.map_err.result (search rules)
