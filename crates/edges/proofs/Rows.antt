@@ -6,4 +6,4 @@ use Rattle.edges.specs.Edges.{Edges}
 
 pub edges : Edges
 unfolding lib.Ieee.lt lib.Ieee.of_bits lib.Ieee.is_nan float_is_finite
-edges = ((refl, refl, refl), ((refl, refl, refl), ((refl, refl, refl), ((refl, refl, refl), ((refl, refl), ((refl, refl), ((refl, refl), ((refl, refl), (refl, tt)))))))))
+edges = ((refl, refl, refl), ((refl, refl, refl), ((refl, refl, refl), ((refl, refl, refl), ((refl, refl), ((refl, refl), ((refl, refl), ((refl, refl), (refl, (refl, (refl, (refl, (refl, ((_, refl, refl), ((_, refl, refl), tt)))))))))))))))

@@ -1,37 +1,37 @@
 use anyhow::Context;
 use digits::Letters;
 use rack::Rack;
-use record::{Fields, value_of};
+use record::{Fields, Record, value_of};
 use shelf::{RACK_FILE, Shelf};
-use std::{array, fs, io};
+use std::{fs, io};
 
 // What the header can give, in mL/min.
-const SUPPLY: u32 = 600_000;
+pub(crate) const SUPPLY: u32 = 600_000;
 
-// Loads the panel's records and prints its channels and what they draw together.
-pub(crate) fn show_rack(rt: &HostRuntime) -> anyhow::Result<()> {
+// The panel's rack, from its records.
+pub(crate) fn load(rt: &HostRuntime) -> anyhow::Result<Shelf> {
     let file = fs::read(rt, RACK_FILE)?;
     let mut shelf = Shelf::blank();
     shelf.fill(file.as_slice())?;
-    let count = shelf.count();
+    Ok(shelf)
+}
+
+// Prints the channels of a rack and what they draw together.
+pub(crate) fn show_rack<R: Rack>(rt: &HostRuntime, rack: &R) -> anyhow::Result<()> {
+    let count = rack.count();
     println!(rt; "\n5. The panel's rack, {count} channels from {RACK_FILE}:")?;
     for channel in 0..count {
-        show_tag(rt, &shelf, channel)?;
-        let fields = shelf
-            .fields(channel)
-            .ok()
-            .context("a channel that is not there")?;
-        show_channel(rt, fields, header::channel_share(&shelf, channel))?;
+        let record = serving::record_of(rack, channel).context("a channel that is not there")?;
+        show_tag(rt, channel, &record)?;
+        show_channel(rt, record.fields, header::channel_share(rack, channel))?;
     }
-    show_header(rt, header::total_share(&shelf)?)?;
+    show_header(rt, header::total_share(rack)?)?;
     Ok(())
 }
 
-// Not by `serving`, which reads text too: that is about requests, and here is a rack alone.
-fn show_tag<R: Rack>(rt: &HostRuntime, rack: &R, channel: u8) -> anyhow::Result<()> {
-    let packed: [u8; 6] = array::from_fn(|place| rack.text_byte(channel, place as u8).unwrap_or(0));
+fn show_tag(rt: &HostRuntime, channel: u8, record: &Record) -> anyhow::Result<()> {
     let mut letters = [0; 8];
-    text::unpack(&packed, &mut letters)?;
+    text::unpack(&record.text[0..6], &mut letters)?;
     println!(rt; "     channel {channel}, tag {}", Letters(&letters))?;
     Ok(())
 }

@@ -1,11 +1,14 @@
-// One exchange, step by step: a master asks for the channel with a tag, and the rack of the panel is laid out.
+// Two exchanges, step by step: a master asks for the channel with a tag, and then this channel for its flow.
 #![tactic(auto)]
 
 mod channels;
+mod exchanges;
+mod parts;
 
 use anyhow::Context;
 use digits::{Hex, Letters, MasterName, Width};
 use frame::{Address, Transmission};
+use parts::{Part, show_parts};
 use std::io;
 
 const TAG: [u8; 8] = *b"MFC-1234";
@@ -13,20 +16,20 @@ const TAG: [u8; 8] = *b"MFC-1234";
 // The long address of every channel, from the primary master.
 const EVERY_CHANNEL: [u8; 5] = [0x80, 0, 0, 0, 0];
 
-// "Read unique identifier associated with tag". A number of its own here, where a master asks: `line` is what channels do.
+// "Read unique identifier associated with tag".
 const TAG_QUESTION: u8 = 11;
 
-const PREAMBLES: usize = 5;
+pub(crate) const PREAMBLES: usize = 5;
 
-// The parts of the question in their order: how many bytes each has, and what they mean.
-const PARTS: [(usize, &str); 7] = [
-    (5, "preambles"),
-    (1, "start of a request with a long address"),
-    (5, "address: primary master, every channel"),
-    (1, "command 11: read the unique identifier by tag"),
-    (1, "count of the data bytes"),
-    (6, "data: the packed tag"),
-    (1, "check: the exclusive or of all bytes from the start on"),
+// The parts of the question in their order.
+const QUESTION: [Part; 7] = [
+    Part(5, "preambles"),
+    Part(1, "start of a request with a long address"),
+    Part(5, "address: primary master, every channel"),
+    Part(1, "command 11: read the unique identifier by tag"),
+    Part(1, "count of the data bytes"),
+    Part(6, "data: the packed tag"),
+    Part(1, "check: the exclusive or of all bytes from the start on"),
 ];
 
 fn main(rt: HostRuntime) -> anyhow::Result<()> {
@@ -34,20 +37,8 @@ fn main(rt: HostRuntime) -> anyhow::Result<()> {
 }
 
 fn run(rt: &HostRuntime) -> anyhow::Result<()> {
-    println!(rt; "A master looks for the channel with the tag MFC-1234.")?;
-
-    let mut packed = [0; 6];
-    text::pack(&TAG, &mut packed)?;
-    show_tag(rt, &packed)?;
-
-    let question = Transmission {
-        preambles: PREAMBLES,
-        address: Address::from(EVERY_CHANNEL.as_slice()),
-        command: TAG_QUESTION,
-        data: &packed,
-    };
     let mut line = [0; 64];
-    let len = frame::make_request(question, &mut line)?;
+    let len = make_question(rt, &mut line)?;
     let sent = line
         .get(0..len)
         .context("the question is longer than the line")?;
@@ -60,7 +51,24 @@ fn run(rt: &HostRuntime) -> anyhow::Result<()> {
     text::unpack(heard.data, &mut letters)?;
     show_letters(rt, &letters)?;
 
-    channels::show_rack(rt)
+    let mut shelf = channels::load(rt)?;
+    channels::show_rack(rt, &shelf)?;
+    exchanges::follow(rt, &mut shelf, sent)
+}
+
+// Packs the tag and makes the question for it in the front of `line`.
+fn make_question(rt: &HostRuntime, line: &mut [u8]) -> anyhow::Result<usize> {
+    println!(rt; "A master looks for the channel with the tag MFC-1234.")?;
+    let mut packed = [0; 6];
+    text::pack(&TAG, &mut packed)?;
+    show_tag(rt, &packed)?;
+    let question = Transmission {
+        preambles: PREAMBLES,
+        address: Address::from(EVERY_CHANNEL.as_slice()),
+        command: TAG_QUESTION,
+        data: &packed,
+    };
+    Ok(frame::make_request(question, line)?)
 }
 
 fn show_tag(rt: &HostRuntime, packed: &[u8]) -> io::Result<()> {
@@ -68,18 +76,9 @@ fn show_tag(rt: &HostRuntime, packed: &[u8]) -> io::Result<()> {
     println!(rt; "     {}", Hex(packed))
 }
 
-// The question part by part.
 fn show_question(rt: &HostRuntime, sent: &[u8]) -> io::Result<()> {
     println!(rt; "\n2. The question for this tag, as the primary master sends it:")?;
-    let mut rest = sent;
-    for (length, meaning) in PARTS {
-        let Some((part, after)) = rest.split_at_checked(length) else {
-            return Ok(());
-        };
-        println!(rt; "     {}   {meaning}", Hex(part))?;
-        rest = after;
-    }
-    Ok(())
+    show_parts(rt, sent, &QUESTION)
 }
 
 fn show_transmission(rt: &HostRuntime, heard: Transmission<'_>) -> io::Result<()> {
