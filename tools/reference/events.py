@@ -36,7 +36,7 @@ def work(panel, event):
         return gap_line(panel)
     if kind == SAMPLE:
         unused(event[2:4])
-        panel.sample(first, pattern(event[4:8]), pattern(event[8:12]))
+        panel.sample(first, number(event[4:8]), number(event[8:12]))
         return None
     if kind == KEY:
         unused(event[3:])
@@ -52,12 +52,12 @@ def unused(some):
         raise out_of_form()
 
 
-def pattern(some):
+def number(some):
     return int.from_bytes(some, "big")
 
 
-def gap_line(panel):
-    buffer = bytearray(LEAST_BUFFER)
+def gap_line(panel, room=LEAST_BUFFER):
+    buffer = bytearray(room)
     found = panel.gap(buffer)
     if found is None:
         return "silent"

@@ -1,4 +1,4 @@
-"""Write the rack's table of operations and expected answers, or check it.
+"""Write the table of writes to a rack, with their expected answers, or check it.
 
     python3 tools/reference/rackvectors.py            writes both files anew
     python3 tools/reference/rackvectors.py --check    only compares
@@ -8,10 +8,6 @@ import sys
 
 sys.dont_write_bytecode = True  # leaves no cache folder in the repository
 
-import rows_file
-import rows_record
-import rows_setpoint
-import rows_units
 import rows_write
 import rows_write_setpoint
 import tables
@@ -19,10 +15,7 @@ from racktable import answer
 
 
 def operations():
-    lines = (rows_setpoint.rows() + rows_units.rows() + rows_record.rows()
-             + rows_file.rows() + rows_write.rows() + rows_write_setpoint.rows())
-    # The edges of one list may stand in another too.
-    return list(dict.fromkeys(lines))
+    return tables.distinct(rows_write.rows() + rows_write_setpoint.rows())
 
 
 TABLE = tables.Table("rackvectors", operations, answer)

@@ -9,6 +9,9 @@ sys.dont_write_bytecode = True  # leaves no cache folder in the repository
 
 import expectation
 import frames
+import selftest_corpora
+import selftest_figures
+import selftest_generator
 import selftest_line
 import selftest_linerun
 import selftest_linetable
@@ -18,6 +21,7 @@ import selftest_rack
 import selftest_racktable
 import selftest_recordings
 import selftest_runs
+import selftest_supplyrun
 import text
 from chance import Chance
 from expectation import code_of, expect
@@ -200,6 +204,10 @@ def main():
     selftest_panel.run()
     selftest_runs.run()
     selftest_linerun.run()
+    selftest_supplyrun.run()
+    selftest_generator.run()
+    selftest_figures.run()
+    selftest_corpora.run()
     selftest_recordings.run()
     print(f"{expectation.checks} checks passed")
 

@@ -12,7 +12,7 @@ from some_records import PLAIN
 TABLES = (
     (setpointvectors, {"load", "admitted", "lawful", "units", "share"}),
     (recordvectors, {"record", "text", "shelf", "single"}),
-    (rackvectors, {"load", "admitted", "lawful", "units", "share", "record", "text", "shelf", "single", "write"}),
+    (rackvectors, {"write"}),
 )
 
 PLAIN_WORD = ("5A12345603" "05789ABC00" "41C80000" "5011" "000003E8" "43790000"

@@ -5,8 +5,9 @@ from pathlib import Path
 
 CRATES = Path(__file__).resolve().parents[2] / "crates"
 
-# The folder's name in crates, a call for the lines, and one for the answer.
-Table = namedtuple("Table", "name operations answer")
+# The folder's name, a call for the lines, one for the answer, and where the folder
+# is, in crates unless another place is given.
+Table = namedtuple("Table", "name operations answer place", defaults=[CRATES])
 
 
 def distinct(lines):
@@ -51,7 +52,7 @@ def shown(lines, at):
 
 
 def check(table):
-    folder = CRATES / table.name
+    folder = table.place / table.name
     for name, wanted in files(table).items():
         path = folder / name
         if not path.exists():
@@ -63,7 +64,7 @@ def check(table):
 
 
 def write(table):
-    folder = CRATES / table.name
+    folder = table.place / table.name
     folder.mkdir(parents=True, exist_ok=True)
     for name, wanted in files(table).items():
         (folder / name).write_bytes(wanted)

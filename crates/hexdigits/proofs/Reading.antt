@@ -83,6 +83,13 @@ hex_more i bytes c d h b e f =
     let low = get_or bytes i 0 % 16 in
     rw (e, f, encode_ascii (digit_of high) (digit_ascii high (omega arith)), encode_ascii (digit_of low) (digit_ascii low (omega arith)), add-one, taken i bytes h) (append_assoc (hex_of (take i bytes)) (digit_of high ∷ []) (digit_of low ∷ []))
 
+-- the same, of digits that were pushed one by one
+pub hex_pushed : (front : List ℕ) (i : ℕ) (bytes : List ℕ) (c d : ℕ) → i < length bytes → c ≡ digit_of (get_or bytes i 0 / 16) → d ≡ digit_of (get_or bytes i 0 % 16)
+    → ((front ++ hex_of (take i bytes)) ++ (c ∷ [])) ++ (d ∷ []) ≡ front ++ hex_of (take (i + 1) bytes)
+hex_pushed front i bytes c d h e f =
+    let before = hex_of (take i bytes) in
+    rw (add-one, taken i bytes h, ← e, ← f) (append_assoc (front ++ before) (c ∷ []) (d ∷ []) ∙ append_assoc front before (c ∷ d ∷ []))
+
 -- an option without a value, told as a fault
 pub refused : (o : Option ℕ) (e : HexFault) → ◌≡◌ {A = Result ℕ HexFault} (Err e) (ok_or o NotHex) → (o ≡ None) × (e ≡ NotHex)
 refused (Some x) e h = absurd (cc)

@@ -1,7 +1,7 @@
 // Bytes as capital hexadecimal text.
 #![tactic(auto)]
 
-ghost use Rattle.std.specs.Prelude.{◌≡◌, ◌<◌, IfSome, IfOk, Some, string_bytes};
+ghost use Rattle.std.specs.Prelude.{◌≡◌, ◌<◌, ◌++◌, take, length, IfSome, IfOk, OnOk, Some, string_bytes};
 ghost use Rattle.hexdigits.specs.declared.HexFault.TheVariants.{Memory};
 ghost use Rattle.hexdigits.specs.Hex.{digit_of, hex_of, value_of, byte_of, bytes_of};
 ghost use Rattle.hexdigits.specs.Answers.{Reads};
@@ -46,19 +46,19 @@ impl fmt::Display for Hex<'_> {
 
     fn fmt<W: fmt::Write>(&self, f: &mut fmt::Formatter<W>) -> fmt::Result {
         for byte in self.0 {
-            f.write_char(digit(byte / 16))?;
-            f.write_char(digit(byte % 16))?;
+            f.write_char(char::from(digit(byte / 16)))?;
+            f.write_char(char::from(digit(byte % 16)))?;
         }
         Ok(())
     }
 }
 
 // The digit of a number below 16.
-fn digit(n: u8) -> char
+fn digit(n: u8) -> u8
     requires { n < 16 }
     ensures { result ≡ digit_of n }
 {
-    char::from(if n < 10 { b'0' + n } else { b'A' + (n - 10) })
+    if n < 10 { b'0' + n } else { b'A' + (n - 10) }
 }
 
 // The number of a digit, if it is one.
@@ -86,6 +86,18 @@ pub fn to_hex(heap: Global, bytes: &[u8]) -> Result<String, AllocError>
     ensures back { bytes_of (hex_of bytes.now) ≡ Some bytes.now }
 {
     format!(in heap; "{}", Hex(bytes))
+}
+
+// Appends the digits of `bytes`; where memory is short, some of them. For many short texts: no formatter stands between.
+pub fn push_hex(text: &mut Vec<u8>, bytes: &[u8]) -> Result<(), AllocError>
+    ensures text { OnOk result (text.new.items ≡ text.old.items ++ hex_of bytes.now) }
+    ensures front { take (length text.old.items) text.new.items ≡ text.old.items }
+{
+    for byte in bytes {
+        text.push(digit(byte / 16))?;
+        text.push(digit(byte % 16))?;
+    }
+    Ok(())
 }
 
 // Reads the bytes of a hexadecimal text.

@@ -1,5 +1,5 @@
 -- What a panel does that a driver works.
-use Rattle.std.specs.Prelude.{◌≡◌, ℕ, ◌-◌, ◌^◌, ◌≤◌, ◌⊎◌, List, [], ◌∷◌, ◌++◌, length, Some}
+use Rattle.std.specs.Prelude.{◌≡◌, ℕ, ◌-◌, ◌^◌, ◌≤◌, ◌⊎◌, List, [], ◌∷◌, ◌++◌, length, min, Some}
 use Rattle.header.specs.Shares.{capacity_of}
 use Rattle.line.specs.Characters.{Character}
 use Rattle.receiver.specs.Holding.{Holds}
@@ -7,37 +7,57 @@ use Rattle.record.specs.declared.Record.{Record}
 use Rattle.runs.specs.Channel.{channel}
 use Rattle.runs.specs.SetUps.{SetUp, Promised}
 use Rattle.runs.specs.Steps.{Run}
-use Rattle.runs.specs.Traces.{Call, Result, Trace, gap, ◌▸◌}
+use Rattle.runs.specs.Traces.{Call, Result, Event, Trace, gap, ◌▸◌}
 use Rattle.panel.specs.declared.state.Panel.{Panel}
 use Rattle.panel.specs.Panels.{Does}
 
--- the call that is made where one was named: the same, or a gap with no more room than was asked for
-pub data Answers : Call channel → Call channel → Type 0 where
-  same : {c : Call channel} → Answers c c
-  less : {n m : ℕ} → m ≤ n → Answers (gap n) (gap m)
+-- the call that is made where one was named, with a buffer of n bytes: a gap has as much room as was asked for, or all the buffer
+abbrev pub within : ℕ → Call channel → Call channel
+within n (gap room) = gap (min room n)
+within n c = c
 
--- One call, which a driver had named, and of which it was told: whatever it had been told when it named the call, it was told the
--- call with its result besides.
-pub record Performed {X : Type 0} (records : X → List Record) (p p' : Panel X) (named told' : Trace channel → Type 0) : Type 0 where
-  pub call : Call channel
-  pub result : Result channel
-  pub does : Does records p p' call result
-  pub heard : (h : Trace channel) → named h → told' (h ++ ((call ▸ result) ∷ []))
+module _ {Dr : Type 0} (names : Dr → Dr → Call channel → Type 0) (hears : Dr → Dr → Event channel → Type 0) (n : ℕ) where
+  -- What a driver did, from the one before to the one after: it named each call of a trace, and was told it with its result before
+  -- it named another.
+  pub data Drives (d : Dr) : Trace channel → Dr → Type 0 where
+    begins : Drives d [] d
+    goes : {trace : Trace channel} {d₁ d₂ d₃ : Dr} {c : Call channel} {x : Result channel}
+        → Drives d trace d₁ → names d₁ d₂ c → hears d₂ d₃ (within n c ▸ x) → Drives d (trace ++ ((within n c ▸ x) ∷ [])) d₃
 
--- the driver ended the run, or it was told as many calls as a run may have
-abbrev pub Finished : (Trace channel → Type 0) → (Trace channel → Type 0) → Trace channel → Type 0
-Finished ended told h = ended h ⊎ ((2 ^ 64 - 1 ≤ length h) × told h)
+  -- it did so till it ended the run, or till the most calls that a run may have
+  pub record Driven (ends : Dr → Dr → Type 0) (d : Dr) (trace : Trace channel) (d' : Dr) : Type 0 where
+    pub last : Dr
+    pub drives : Drives d trace last
+    pub ended : ends last d' ⊎ ((2 ^ 64 - 1 ≤ length trace) × (last ≡ d'))
 
--- THE PROMISE, WHOLE. A panel, whose rack means these records, was set up under a supply, and worked by a driver that named each
--- call knowing the results of all earlier ones. What it did since is a trace: a run of the relation from the records at set-up to
--- those after it and to the unended transmission, which the receiver holds. For that run isolation, damage, header and records are
--- promised, and the trace is what the driver named and was told, call by call.
-pub record Worked {X : Type 0} (records : X → List Record) (supply : ℕ) (p p' : Panel X) (told told' : Trace channel → Type 0) : Type 0 where
-  pub set_up : SetUp supply (records p.rack)
-  pub supply_is : p'.supply ≡ Some supply
-  pub trace : Trace channel
-  pub line : List Character
-  pub ran : Run channel (capacity_of supply) (records p.rack) [] trace (records p'.rack) line
-  pub promised : Promised supply (records p.rack) trace (records p'.rack) line
-  pub holds : Holds p'.receiver line
-  pub heard : (h : Trace channel) → told h → told' (h ++ trace)
+module _ {X : Type 0} (records : X → List Record) where
+  -- One call on a panel, which was named by its driver, and told to it with its result.
+  pub record Performed {Dr : Type 0} (p p' : Panel X) (hears : Dr → Dr → Event channel → Type 0) (d d' : Dr) (call : Call channel) : Type 0 where
+    pub result : Result channel
+    pub does : Does records p p' call result
+    pub heard : hears d d' (call ▸ result)
+
+  -- THE PROMISE, WHOLE, of a panel that was set up under a supply when its rack meant the records before, and of all calls since,
+  -- a trace: it is a run of the relation from those records to the ones that the rack means now and to the unended transmission,
+  -- which the receiver holds. For that run isolation, damage, header and records are promised.
+  pub record Underway (supply : ℕ) (before : List Record) (trace : Trace channel) (p : Panel X) : Type 0 where
+    pub set_up : SetUp supply before
+    pub supply_is : p.supply ≡ Some supply
+    pub line : List Character
+    pub ran : Run channel (capacity_of supply) before [] trace (records p.rack) line
+    pub promised : Promised supply before trace (records p.rack) line
+    pub holds : Holds p.receiver line
+
+  module _ (p p' : Panel X) {Dr : Type 0} (names : Dr → Dr → Call channel → Type 0) (hears : Dr → Dr → Event channel → Type 0) (ends : Dr → Dr → Type 0) (n : ℕ) (d d' : Dr) where
+    -- A panel was set up under a supply, and worked by a driver that named each call knowing the results of all earlier ones: of the
+    -- trace of these calls the whole promise holds.
+    pub record Worked (supply : ℕ) : Type 0 where
+      pub trace : Trace channel
+      pub driven : Driven names hears n ends d trace d'
+      pub underway : Underway supply (records p.rack) trace p'
+
+    -- it was worked on: whatever was promised of the calls till then is promised of those and these
+    pub record WorkedOn : Type 0 where
+      pub trace : Trace channel
+      pub driven : Driven names hears n ends d trace d'
+      pub underway : (supply : ℕ) (before : List Record) (earlier : Trace channel) → Underway supply before earlier p → Underway supply before (earlier ++ trace) p'

@@ -1,12 +1,12 @@
-ghost use Rattle.std.specs.Prelude.{◌≡◌, ◌≤◌, false, List, [], ◌∷◌, ◌++◌, length, is_ok, MatchOption, OnOk};
+ghost use Rattle.std.specs.Prelude.{◌≡◌, false, length, is_ok, MatchOption, OnOk};
 ghost use Rattle.std.specs.Option.{option_map};
 ghost use Rattle.std.specs.Result.{result_err};
 ghost use Rattle.calls.specs.Views.{call_of, event_of};
 ghost use Rattle.refusals.specs.Refusals.{number_of};
 ghost use Rattle.runs.specs.Channel.{channel as flowChannel};
-ghost use Rattle.runs.specs.Traces.{Call as TraceCall, Trace, gap};
+ghost use Rattle.runs.specs.Traces.{Call as TraceCall, Event, gap};
 ghost use Rattle.setup.specs.SetUps.{set_up_refusal};
-ghost use Rattle.panel.specs.Working.{Answers, Performed, Finished, Worked};
+ghost use Rattle.panel.specs.Working.{within, Performed, WorkedOn, Worked};
 
 use crate::state::Panel;
 use calls::{Call, Outcome};
@@ -17,23 +17,22 @@ use serving::Answer;
 // Who works a panel: it names the next call, and is told what came of it before it names another, so that it may choose each call
 // by all that happened before.
 pub trait Driver {
-    // The traces that the driver may have been told so far. One that keeps a history in memory has just one; one that passes on
-    // what it hears says which traces fit what it passed on.
-    ghost told: { Self → Trace flowChannel → Type 0 };
+    // From the driver before to the one after, it named this call.
+    ghost names: { Self → Self → TraceCall flowChannel → Type 0 };
 
-    // It was told such a trace, and has named this call.
-    ghost named: { Self → Trace flowChannel → TraceCall flowChannel → Type 0 };
+    // From the driver before to the one after, it was told this call with its result.
+    ghost hears: { Self → Self → Event flowChannel → Type 0 };
 
-    // It was told such a trace, and has ended the run.
-    ghost ended: { Self → Trace flowChannel → Type 0 };
+    // From the driver before to the one after, it ended the run.
+    ghost ends: { Self → Self → Type 0 };
 
     // The next call, or the end of the run.
     fn next(&mut self) -> Option<Call>
-        ensures { (h : Trace flowChannel) → told self.old h → MatchOption result (ended self.new h) (λ c. named self.new h (call_of c)) };
+        ensures { MatchOption result (ends self.old self.new) (λ c. names self.old self.new (call_of c)) };
 
-    // What came of the call that was named. A gap is told with the room that there was, at most the room that was asked for.
+    // What came of the call that was named. A gap is told with the room that there was: as much as was asked for, or all the buffer.
     fn hear(&mut self, call: Call, outcome: Result<Outcome<'_>, Refusal>)
-        ensures { (h : Trace flowChannel) (c : TraceCall flowChannel) → named self.old h c → Answers c (call_of call) → told self.new (h ++ (event_of call outcome.entry ∷ [])) };
+        ensures { hears self.old self.new (event_of call outcome.entry) };
 }
 
 // Sets a panel up under a supply and works it by a driver until that ends the run. Answers stand in `buffer`: a gap has as much
@@ -45,25 +44,32 @@ pub fn work<R: Rack, D: Driver>(
     buffer: &mut [u8],
 ) -> Result<(), Refusal>
     ensures refusal { option_map number_of (result_err result) ≡ set_up_refusal supply (R.Rack.records panel.old.rack) }
-    ensures worked { OnOk result (Worked R.Rack.records supply panel.old panel.new (D.Driver.told driver.old) (Finished (D.Driver.ended driver.new) (D.Driver.told driver.new))) }
+    ensures worked { OnOk result (Worked R.Rack.records panel.old panel.new D.Driver.names D.Driver.hears D.Driver.ends (length buffer.old) driver.old driver.new supply) }
     ensures same { is_ok result ≡ false → panel.new ≡ panel.old }
     ensures unasked { is_ok result ≡ false → driver.new ≡ driver.old }
 {
     panel.set_up(supply)?;
+    work_on(panel, driver, buffer);
+    Ok(())
+}
+
+// Works a panel on by a driver until that ends the run: whatever the run was till then, it goes on by these calls.
+pub fn work_on<R: Rack, D: Driver>(panel: &mut Panel<R>, driver: &mut D, buffer: &mut [u8])
+    ensures { WorkedOn R.Rack.records panel.old panel.new D.Driver.names D.Driver.hears D.Driver.ends (length buffer.old) driver.old driver.new }
+{
     // Nothing says that a driver ends, so the turns are counted.
     for _ in 0..u64::MAX {
         // The end of a driver is no error, so no `?`.
         let Some(call) = driver.next() else {
-            return Ok(());
+            return;
         };
         perform(panel, driver, call, buffer);
     }
-    Ok(())
 }
 
 // One call that the driver named, and what came of it told.
 fn perform<R: Rack, D: Driver>(panel: &mut Panel<R>, driver: &mut D, call: Call, buffer: &mut [u8])
-    ensures { Performed R.Rack.records panel.old panel.new (λ h. D.Driver.named driver.old h (call_of call)) (D.Driver.told driver.new) }
+    ensures { Performed R.Rack.records panel.old panel.new D.Driver.hears driver.old driver.new (within (length buffer.old) (call_of call)) }
 {
     let result = match call {
         Call::Character { byte, marks } => panel.character(byte, marks),
@@ -71,16 +77,15 @@ fn perform<R: Rack, D: Driver>(panel: &mut Panel<R>, driver: &mut D, call: Call,
         Call::Key { channel, open } => panel.key(channel, open),
         Call::Gap { room } => {
             let least = room.min(buffer.len());
-            return end(panel, driver, room, &mut buffer[0..least]);
+            return end(panel, driver, &mut buffer[0..least]);
         }
     };
     driver.hear(call, result.map(|()| Outcome::Taken));
 }
 
-// A gap with this buffer, where the driver asked for this room, and what came of it told.
-fn end<R: Rack, D: Driver>(panel: &mut Panel<R>, driver: &mut D, room: usize, out: &mut [u8])
-    requires { length out.old ≤ room }
-    ensures { Performed R.Rack.records panel.old panel.new (λ h. D.Driver.named driver.old h (gap room)) (D.Driver.told driver.new) }
+// A gap with this buffer, and what came of it told.
+fn end<R: Rack, D: Driver>(panel: &mut Panel<R>, driver: &mut D, out: &mut [u8])
+    ensures { Performed R.Rack.records panel.old panel.new D.Driver.hears driver.old driver.new (gap (length out.old)) }
 {
     let call = Call::Gap { room: out.len() };
     match panel.gap(out) {

@@ -1,1 +1,2 @@
-pub mod Printing
+mod Bytes
+mod Printing

@@ -1,2 +1,3 @@
-pub mod Printing
+pub mod Streams
+pub mod Players
 pub mod Playing

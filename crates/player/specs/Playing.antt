@@ -1,16 +1,21 @@
 -- What playing a recording on the shelf of a record file does.
-use Rattle.std.specs.Prelude.{◌≡◌, ℕ, ◌⊎◌, List, Some, Ok, Err, Option, Result}
+use Rattle.std.specs.Prelude.{ℕ, ◌⊎◌, List, [], ◌++◌, Some, None, Ok, Err, Option, Result}
 use Rattle.std.proofs.Common.{inl, inr}
 use Rattle.std.specs.Option.{option_map}
-use Rattle.panel.specs.Working.{Worked}
+use Rattle.header.specs.Shares.{capacity_of}
+use Rattle.panel.specs.Working.{Driven, Underway}
 use Rattle.panel.specs.declared.state.Panel.{Panel}
-use Rattle.rack.specs.Files.{refusal_of}
+use Rattle.rack.specs.Files.{refusal_of, file_answer, file_records}
 use Rattle.rack.specs.declared.files.FileFault.{FileFault}
 use Rattle.record.specs.declared.Record.{Record}
+use Rattle.recording.specs.Lines.{refusal_line}
+use Rattle.recording.specs.Outputs.{lines_of, rest_line}
+use Rattle.recording.specs.Recordings.{events_of, rest_of}
 use Rattle.refusals.specs.Refusals.{number_of}
 use Rattle.refusals.specs.declared.Refusal.{Refusal}
 use Rattle.runs.specs.Channel.{channel}
-use Rattle.runs.specs.Traces.{Trace}
+use Rattle.runs.specs.Traces.{Call, Event, Trace}
+use Rattle.setup.specs.SetUps.{set_up_refusal}
 use Rattle.shelf.specs.Rows.{records_in}
 use Rattle.shelf.specs.declared.shelf.Shelf.{Shelf}
 use Rattle.player.specs.declared.playing.PlayFault.{PlayFault}
@@ -35,9 +40,22 @@ play_fault (Ok u) refusal = option_map inr refusal
 abbrev pub records_of : Shelf → List Record
 records_of s = records_in s.rows.items
 
--- the run that was played: a panel over a shelf of the records was worked
-pub record Played (supply : ℕ) (records : List Record) (told told' : Trace channel → Type 0) : Type 0 where
-  pub before : Panel Shelf
-  pub after : Panel Shelf
-  pub shelved : records_of before.rack ≡ records
-  pub worked : Worked records_of supply before after told told'
+module _ {Dr : Type 0} (names : Dr → Dr → Call channel → Type 0) (hears : Dr → Dr → Event channel → Type 0) (ends : Dr → Dr → Type 0) (d d' : Dr) where
+  -- The run that was played: a panel over a shelf of the records was set up, and worked by the driver. Of the trace of these calls
+  -- the whole promise holds.
+  pub record Played (supply : ℕ) (records : List Record) : Type 0 where
+    pub after : Panel Shelf
+    pub trace : Trace channel
+    pub driven : Driven names hears 64 ends d trace d'
+    pub underway : Underway records_of supply records trace after
+
+-- what is printed where a recording is not played by a fault, or else is: the line of the fault; or the lines of the events, and
+-- that of the rest
+abbrev pub output_for : ℕ → Option (FileFault ⊎ ℕ) → List Record → List ℕ → List ℕ
+output_for supply (Some (inl fault)) records input = refusal_line (number_of (refusal_of fault))
+output_for supply (Some (inr number)) records input = refusal_line number
+output_for supply None records input = lines_of (capacity_of supply) records [] (events_of input) ++ rest_line (rest_of input)
+
+-- WHAT A RECORDING PRINTS: of the bytes of the record file and of those of the recording, under a supply
+abbrev pub output_of : ℕ → List ℕ → List ℕ → List ℕ
+output_of supply file input = output_for supply (play_fault (file_answer 15 file) (set_up_refusal supply (file_records file))) (file_records file) input

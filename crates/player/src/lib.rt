@@ -3,7 +3,9 @@
 
 mod driving;
 mod playing;
-mod tape;
+mod stream;
+mod streaming;
 
-pub use playing::{PlayFault, play};
-pub use tape::{Player, Tape};
+pub use driving::Player;
+pub use playing::{PlayFault, play, run};
+pub use stream::{EventStream, Interruption};

@@ -1,17 +1,20 @@
-ghost use Rattle.std.specs.Prelude.{◌≡◌, OnOk};
+ghost use Rattle.std.specs.Prelude.{◌≡◌, ℕ, false, List, ◌++◌, Some, is_ok, IfOk, OnOk};
 ghost use Rattle.std.specs.Option.{option_map};
 ghost use Rattle.std.specs.Result.{result_err};
 ghost use Rattle.rack.specs.Files.{file_answer, file_records};
 ghost use Rattle.setup.specs.SetUps.{set_up_refusal};
-ghost use Rattle.panel.specs.Working.{Finished};
-ghost use Rattle.player.specs.Playing.{play_refusal, fault_seen, play_fault, Played};
+ghost use Rattle.player.specs.Playing.{play_refusal, fault_seen, play_fault, Played, output_of};
 ghost use Rattle.player.specs.declared.playing.PlayFault.TheVariants.{File, SetUp};
 
+use crate::driving::Player;
+use crate::stream::Interruption;
 use line::MOST_ANSWER;
 use panel::{Driver, Panel, work};
 use rack::FileFault;
 use refusals::Refusal;
 use shelf::Shelf;
+use std::alloc::Global;
+use std::io::{Read, Write};
 
 // Why a recording is not played.
 #[derive(Clone, Copy, PartialEq, Debug)]
@@ -53,7 +56,8 @@ impl From<Refusal> for PlayFault {
 // Plays a recording: a driver works a panel over the shelf of a record file, under a supply in mL/min.
 pub fn play<D: Driver>(file: &[u8], supply: u32, driver: &mut D) -> Result<(), PlayFault>
     ensures fault { option_map fault_seen (result_err result) ≡ play_fault (file_answer 15 file.now) (set_up_refusal supply (file_records file.now)) }
-    ensures played { OnOk result (Played supply (file_records file.now) (D.Driver.told driver.old) (Finished (D.Driver.ended driver.new) (D.Driver.told driver.new))) }
+    ensures played { OnOk result (Played D.Driver.names D.Driver.hears D.Driver.ends driver.old driver.new supply (file_records file.now)) }
+    ensures unasked { is_ok result ≡ false → driver.new ≡ driver.old }
 {
     let mut shelf = Shelf::blank();
     shelf.fill(file)?;
@@ -61,4 +65,22 @@ pub fn play<D: Driver>(file: &[u8], supply: u32, driver: &mut D) -> Result<(), P
     let mut buffer = [0; MOST_ANSWER];
     work(&mut panel, supply, driver, &mut buffer)?;
     Ok(())
+}
+
+// Plays a recording whole, and gives the writer back: it prints the lines of the events, or the one line of a refused record file
+// or set-up. However the reader cuts the recording into blocks, the lines are those of the whole.
+pub fn run<R: Read + Drop, W: Write + Drop>(
+    heap: Global,
+    file: &[u8],
+    supply: u32,
+    input: R,
+    output: W,
+) -> Result<W, Interruption>
+    ensures { (bytes out : List ℕ) → R.Read.remaining input ≡ Some bytes → W.Write.contents output ≡ Some out → IfOk result (λ w. W.Write.contents w ≡ Some (out ++ output_of supply file.now bytes)) }
+{
+    let mut player = Player::new(heap, input, output);
+    match play(file, supply, &mut player) {
+        Ok(()) => player.finish(),
+        Err(fault) => player.refuse(fault.refusal()),
+    }
 }

@@ -1,8 +1,5 @@
-// Works through a table of calls on setpoints, records and racks, one a line, and prints what each answers:
+// Works through a table of writes to a rack, one a line, and prints what each answers:
 //
-//     load PATTERN              admitted PATTERN CEILING       lawful PATTERN
-//     units PATTERN FULLSCALE   share LOAD FULLSCALE           record BYTES
-//     shelf BYTES               single BYTES                   text BYTES PLACE
 //     write BYTES CEILING KIND VALUE..
 //
 // Bytes and patterns are capital hexadecimal, '-' where there are none. A write goes to a single instrument under a
@@ -17,10 +14,8 @@ use anyhow::{Context, anyhow};
 use combined::Ceiling;
 use rack::{Change, Rack, RackRefusal};
 use record::{Reading, value_of};
-use setpoint::{admitted, classify, in_units, lawful, share};
-use shelf::Shelf;
 use single::Single;
-use tables::{Admitted, Byte, Checked, Classified, Filled, Units, YesNo, bytes_of};
+use tables::bytes_of;
 use words::{from_bytes, to_pattern};
 
 fn main(rt: HostRuntime) -> anyhow::Result<()> {
@@ -37,54 +32,13 @@ fn run(rt: &HostRuntime) -> anyhow::Result<()> {
     Ok(())
 }
 
-// The arms on setpoints, records and files stand in another program too: each is a call and the type of `tables` that prints its
-// answer, and a function in the place of an arm would be as long.
 fn call(rt: &HostRuntime, words: &[&str]) -> anyhow::Result<()> {
-    match words {
-        ["load", pattern] => println!(rt; "{}", Classified(classify(to_pattern(pattern)?)))?,
-        ["admitted", pattern, ceiling] => {
-            println!(rt;
-                "{}",
-                Admitted(admitted(to_pattern(pattern)?, ceiling.parse()?))
-            )?
-        }
-        ["lawful", pattern] => println!(rt; "{}", YesNo(lawful(to_pattern(pattern)?)))?,
-        ["units", pattern, full_scale] => {
-            println!(rt;
-                "{}",
-                Units(in_units(to_pattern(pattern)?, full_scale.parse()?))
-            )?
-        }
-        ["share", load, full_scale] => {
-            println!(rt; "{}", share(load.parse()?, full_scale.parse()?))?
-        }
-        [call, bytes, rest @ ..] => {
-            call_on_bytes(rt, call, bytes_of(rt.alloc(), bytes)?.as_slice(), rest)?
-        }
-        _ => return Err(anyhow!("a line with no call")),
-    }
-    Ok(())
-}
-
-fn call_on_bytes(rt: &HostRuntime, call: &str, bytes: &[u8], rest: &[&str]) -> anyhow::Result<()> {
-    match (call, rest) {
-        ("record", []) => {
-            let checked = Checked::of(bytes).context("a record of another length")?;
-            println!(rt; "{checked}")?
-        }
-        ("shelf", []) => println!(rt; "{}", Filled::by(&mut Shelf::blank(), bytes))?,
-        ("single", []) => println!(rt; "{}", Filled::by(&mut Single::blank(), bytes))?,
-        ("text", [place]) => {
-            println!(rt; "{}", Byte(instrument(bytes)?.text_byte(0, place.parse()?)))?
-        }
-        ("write", [ceiling, change @ ..]) => {
-            let below = instrument(bytes)?;
-            let percent = ceiling.parse()?;
-            write(rt, Ceiling { below, percent }, change)?
-        }
-        _ => return Err(anyhow!("a line with no call")),
-    }
-    Ok(())
+    let ["write", bytes, ceiling, change @ ..] = words else {
+        return Err(anyhow!("a line with no write"));
+    };
+    let below = instrument(bytes_of(rt.alloc(), bytes)?.as_slice())?;
+    let percent = ceiling.parse()?;
+    write(rt, Ceiling { below, percent }, change)
 }
 
 // A single instrument with the record of a row.

@@ -47,10 +47,10 @@ continues waiting rest byte events e r bytes w = record {
 }
 
 -- fewer than 12 bytes are no event yet, and 12 are one
-short : (l : List ℕ) → length l < 12 → ([] ≡ events_of l) × (l ≡ rest_of l)
+pub short : (l : List ℕ) → length l < 12 → ([] ≡ events_of l) × (l ≡ rest_of l)
 short l h = let z : length l / 12 ≡ 0 = omega arith in rw z (refl, refl)
 
-complete : (l : List ℕ) → length l ≡ 12 → (l ∷ [] ≡ events_of l) × ([] ≡ rest_of l)
+pub complete : (l : List ℕ) → length l ≡ 12 → (l ∷ [] ≡ events_of l) × ([] ≡ rest_of l)
 complete l h = rw h (ap (λ e. e ∷ []) (sym (take_all 12 l (omega arith))), sym (drop_all 12 l (omega arith)))
 
 -- a byte written at place n, after those that wait

@@ -1,1 +1,1 @@
-mod Cuts
+pub mod Cuts

@@ -2,3 +2,4 @@ pub mod Events
 pub mod Lines
 pub mod Recordings
 pub mod Collecting
+pub mod Outputs

@@ -8,7 +8,7 @@ mod printer;
 
 pub use decoder::{EVENT_LENGTH, decode_event};
 pub use pending::Pending;
-pub use printer::{Line, push_line, push_refusal};
+pub use printer::{push_line, push_refusal};
 
 #[cfg(test)]
 mod tests {

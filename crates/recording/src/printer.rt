@@ -1,41 +1,26 @@
-ghost use Rattle.std.specs.Prelude.{◌≡◌, ◌++◌, Some, is_ok, if◌then◌else◌};
+ghost use Rattle.std.specs.Prelude.{◌≡◌, ◌++◌, decimal, is_ok, IfOk, OnOk, if◌then◌else◌};
 ghost use Rattle.refusals.specs.Refusals.{number_of};
 ghost use Rattle.calls.specs.Views.{result_of};
 ghost use Rattle.recording.specs.Lines.{refusal_line, line_of};
 
 use calls::Outcome;
-use hexdigits::Hex;
+use hexdigits::push_hex;
 use refusals::Refusal;
-use std::alloc::AllocError;
-use std::fmt;
+use std::alloc::{AllocError, Global};
 
-// What came of a call, printed as its line. A call that was taken has none.
-#[derive(Clone, Copy)]
-pub struct Line<'a>(pub Result<Outcome<'a>, Refusal>);
-
-impl fmt::Display for Line<'_> {
-    ghost output = { λ line. Some (line_of (result_of line.0)) };
-
-    fn fmt<W: fmt::Write>(&self, f: &mut fmt::Formatter<W>) -> fmt::Result {
-        match self.0 {
-            Ok(Outcome::Taken) => Ok(()),
-            Ok(Outcome::Silent) => writeln!(f, "silent"),
-            Ok(Outcome::Answered { channel, bytes }) => writeln!(f, "{channel} {}", Hex(bytes)),
-            Err(refusal) => writeln!(f, "refused {}", refusal.number()),
-        }
-    }
-}
-
-// Appends the line of an outcome, or changes nothing where memory is short. Not to a `String`, which would ask that what stands
-// there is text.
+// Appends the line of an outcome, or changes nothing where memory is short.
 pub fn push_line(
     lines: &mut Vec<u8>,
     outcome: Result<Outcome<'_>, Refusal>,
 ) -> Result<(), AllocError>
     ensures { lines.new.items ≡ (if is_ok result then lines.old.items ++ line_of (result_of outcome.entry) else lines.old.items) }
 {
-    let line = Line(outcome).to_string(*lines.allocator())?;
-    lines.extend_from_slice(line.as_str().as_bytes())
+    // Most calls have no line.
+    if let Ok(Outcome::Taken) = outcome {
+        return Ok(());
+    }
+    let line = line(*lines.allocator(), outcome)?;
+    lines.extend_from_slice(line.as_slice())
 }
 
 // The same for a refusal that no call gave, as of an event out of form or of a file.
@@ -43,4 +28,39 @@ pub fn push_refusal(lines: &mut Vec<u8>, refusal: Refusal) -> Result<(), AllocEr
     ensures { lines.new.items ≡ (if is_ok result then lines.old.items ++ refusal_line (number_of refusal) else lines.old.items) }
 {
     push_line(lines, Err(refusal))
+}
+
+// The line of an outcome, digit by digit: a formatter would cost more than all else that comes of a gap.
+fn line(heap: Global, outcome: Result<Outcome<'_>, Refusal>) -> Result<Vec<u8>, AllocError>
+    ensures { IfOk result (λ line. line.items ≡ line_of (result_of outcome.entry)) }
+{
+    let mut line = Vec::new(heap);
+    match outcome {
+        Ok(Outcome::Taken) => {}
+        Ok(Outcome::Silent) => line.extend_from_slice(b"silent\n")?,
+        Ok(Outcome::Answered { channel, bytes }) => {
+            push_number(&mut line, channel)?;
+            line.push(b' ')?;
+            push_hex(&mut line, bytes)?;
+            line.push(b'\n')?;
+        }
+        Err(refusal) => {
+            line.extend_from_slice(b"refused ")?;
+            push_number(&mut line, refusal.number())?;
+            line.push(b'\n')?;
+        }
+    }
+    Ok(line)
+}
+
+// Appends a number in decimal.
+fn push_number(line: &mut Vec<u8>, number: u8) -> Result<(), AllocError>
+    ensures { OnOk result (line.new.items ≡ line.old.items ++ decimal number) }
+{
+    if number < 10 {
+        line.push(b'0' + number)?;
+        return Ok(());
+    }
+    let digits = number.to_string(*line.allocator())?;
+    line.extend_from_slice(digits.as_str().as_bytes())
 }

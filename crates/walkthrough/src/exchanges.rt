@@ -4,13 +4,21 @@ use crate::parts::{Part, show_parts};
 use anyhow::Context;
 use digits::Hex;
 use frame::{Address, Transmission};
-use line::Received;
+use line::MOST_ANSWER;
 use master::{flow_pattern, long_address};
+use panel::Panel;
 use rack::Rack;
 use record::value_of;
+use shelf::Shelf;
 
 // "Read primary variable": the flow.
 const READ_FLOW: u8 = 1;
+
+// "Write setpoint", in percent.
+const WRITE_SETPOINT: u8 = 236;
+
+// The code of a percentage, in front of a setpoint.
+const PERCENT: u8 = 0x39;
 
 const IDENTIFIER_REPLY: [Part; 9] = [
     Part(5, "preambles, as many as the channel holds"),
@@ -36,61 +44,161 @@ const FLOW_REPLY: [Part; 9] = [
     Part(1, "check"),
 ];
 
-// Lets the rack hear the question for a tag, and asks the channel that answers for its flow.
-pub(crate) fn follow<R: Rack>(
-    rt: &HostRuntime,
-    rack: &mut R,
-    question: &[u8],
-) -> anyhow::Result<()> {
-    println!(rt; "\n7. The question, heard by every channel:")?;
-    let mut line = [0; 64];
-    let len = hear(rt, rack, question, &IDENTIFIER_REPLY, &mut line)?;
+// The reply of a channel with a short address to a setpoint that is granted.
+const GRANT: [Part; 8] = [
+    Part(5, "preambles"),
+    Part(1, "start of a reply with a short address"),
+    Part(1, "address, as received"),
+    Part(1, "command, as received"),
+    Part(1, "count"),
+    Part(2, "status bytes: response code 0"),
+    Part(
+        10,
+        "data: 39, the setpoint, the unit code, the setpoint in units",
+    ),
+    Part(1, "check"),
+];
+
+// The same where it is not: no data.
+const DENIAL: [Part; 7] = [
+    Part(5, "preambles"),
+    Part(1, "start of a reply with a short address"),
+    Part(1, "address, as received"),
+    Part(1, "command, as received"),
+    Part(1, "count"),
+    Part(2, "status bytes"),
+    Part(1, "check"),
+];
+
+// Sets a panel up over the rack, and lets it hear the question for a tag and what the master asks then.
+pub(crate) fn follow(rt: &HostRuntime, shelf: Shelf, question: &[u8]) -> anyhow::Result<()> {
+    let mut panel = Panel::new(shelf);
+    panel.set_up(SUPPLY)?;
+    println!(rt; "\n7. The panel is set up with this supply, and hears the question:")?;
+    let mut line = [0; MOST_ANSWER];
+    let len = hear(rt, &mut panel, question, &IDENTIFIER_REPLY, &mut line)?;
     let reply = line.get(0..len).unwrap_or(&[]);
     let address = long_address(reply).context("a reply with no identifier")?;
-    ask_flow(rt, rack, &address)
+    ask_flow(rt, &mut panel, &address)?;
+    set_behind_key(rt, &mut panel)?;
+    fill_header(rt, &mut panel)?;
+    send_damaged(rt, &mut panel)
 }
 
 // Asks the channel with this long address for its flow.
-fn ask_flow<R: Rack>(rt: &HostRuntime, rack: &mut R, address: &[u8]) -> anyhow::Result<()> {
-    let mut line = [0; 64];
+fn ask_flow<R: Rack>(rt: &HostRuntime, panel: &mut Panel<R>, address: &[u8]) -> anyhow::Result<()> {
+    println!(rt; "\n8. The flow, asked with the long address from the reply:")?;
     let question = Transmission {
         preambles: PREAMBLES,
         address: Address::from(address),
         command: READ_FLOW,
         data: &[],
     };
-    let len = frame::make_request(question, &mut line)?;
-    let sent = line
-        .get(0..len)
-        .context("the question is longer than the line")?;
-    println!(rt;
-        "\n8. The flow, asked with the long address from the reply:\n     {}",
-        Hex(sent)
-    )?;
-    hear_flow(rt, rack, sent)
-}
-
-// Lets the rack hear the question for a flow, and prints the flow that is answered.
-fn hear_flow<R: Rack>(rt: &HostRuntime, rack: &mut R, question: &[u8]) -> anyhow::Result<()> {
-    let mut line = [0; 64];
-    let len = hear(rt, rack, question, &FLOW_REPLY, &mut line)?;
+    let mut line = [0; MOST_ANSWER];
+    let len = ask(rt, panel, question, &FLOW_REPLY, &mut line)?;
     let reply = line.get(0..len).unwrap_or(&[]);
     let flow = flow_pattern(reply).context("a reply with no flow")?;
     println!(rt; "     the flow is {}", value_of(flow))?;
     Ok(())
 }
 
-// Lets the channels of a rack hear a transmission, prints who answers and the parts of the answer, and tells its length.
+// Channel 2, at polling address 3, takes no setpoint before its key is opened.
+fn set_behind_key<R: Rack>(rt: &HostRuntime, panel: &mut Panel<R>) -> anyhow::Result<()> {
+    println!(rt; "\n9. 25 percent for channel 2, whose key is shut. Response code 7:")?;
+    ask_setpoint(rt, panel, 0x83, 0x41C8_0000, &DENIAL)?;
+    println!(rt; "\n10. Its key is opened, and the setpoint is granted:")?;
+    panel.key(2, true)?;
+    ask_setpoint(rt, panel, 0x83, 0x41C8_0000, &GRANT)
+}
+
+// 85 percent of channel 0 is just what the others leave of the supply.
+fn fill_header<R: Rack>(rt: &HostRuntime, panel: &mut Panel<R>) -> anyhow::Result<()> {
+    println!(rt;
+        "\n11. The least setpoint above 85 percent for channel 0, more than the others leave of the supply. Response code 16:"
+    )?;
+    ask_setpoint(rt, panel, 0x81, 0x42AA_0001, &DENIAL)?;
+    println!(rt; "\n12. 85 percent, just what they leave:")?;
+    ask_setpoint(rt, panel, 0x81, 0x42AA_0000, &GRANT)
+}
+
+// A request whose check byte was damaged.
+fn send_damaged<R: Rack>(rt: &HostRuntime, panel: &mut Panel<R>) -> anyhow::Result<()> {
+    println!(rt; "\n13. 0 percent for channel 0, with a damaged check. A communication error:")?;
+    let mut sent = [0; MOST_ANSWER];
+    let data = setpoint_data(0);
+    let len = frame::make_request(setpoint_request(&[0x81], &data), &mut sent)?;
+    let damaged = sent.get_mut(0..len).context("a request without bytes")?;
+    if let Some(check) = damaged.last_mut() {
+        *check ^= 0x01;
+    }
+    let mut line = [0; MOST_ANSWER];
+    println!(rt; "     {}", Hex(damaged))?;
+    hear(rt, panel, damaged, &DENIAL, &mut line)?;
+    Ok(())
+}
+
+fn setpoint_data(pattern: u32) -> [u8; 5] {
+    let [b0, b1, b2, b3] = pattern.to_be_bytes();
+    [PERCENT, b0, b1, b2, b3]
+}
+
+fn setpoint_request<'a>(address: &'a [u8], data: &'a [u8]) -> Transmission<'a> {
+    Transmission {
+        preambles: PREAMBLES,
+        address: Address::from(address),
+        command: WRITE_SETPOINT,
+        data,
+    }
+}
+
+// Asks the channel with this short address to take a setpoint.
+fn ask_setpoint<R: Rack>(
+    rt: &HostRuntime,
+    panel: &mut Panel<R>,
+    address: u8,
+    pattern: u32,
+    parts: &[Part],
+) -> anyhow::Result<()> {
+    let data = setpoint_data(pattern);
+    let mut line = [0; MOST_ANSWER];
+    ask(
+        rt,
+        panel,
+        setpoint_request(&[address], &data),
+        parts,
+        &mut line,
+    )?;
+    Ok(())
+}
+
+// Sends a request, and lets the panel hear it.
+fn ask<R: Rack>(
+    rt: &HostRuntime,
+    panel: &mut Panel<R>,
+    question: Transmission<'_>,
+    parts: &[Part],
+    line: &mut [u8],
+) -> anyhow::Result<usize> {
+    let mut sent = [0; MOST_ANSWER];
+    let len = frame::make_request(question, &mut sent)?;
+    let sent = sent.get(0..len).context("a request without bytes")?;
+    println!(rt; "     {}", Hex(sent))?;
+    hear(rt, panel, sent, parts, line)
+}
+
+// Lets the panel hear a transmission and the gap after it, prints who answers and the parts of the answer, and tells its length.
 fn hear<R: Rack>(
     rt: &HostRuntime,
-    rack: &mut R,
+    panel: &mut Panel<R>,
     sent: &[u8],
     parts: &[Part],
-    out: &mut [u8],
+    line: &mut [u8],
 ) -> anyhow::Result<usize> {
-    let received = Received::of(sent, &[]);
-    let answer = serving::serve(rack, SUPPLY, received, out).context("no channel answers")?;
+    for byte in sent {
+        panel.character(*byte, 0)?;
+    }
+    let answer = panel.gap(line)?.context("no channel answers")?;
     println!(rt; "     channel {} answers:", answer.channel)?;
-    show_parts(rt, out, parts)?;
+    show_parts(rt, line, parts)?;
     Ok(answer.length)
 }

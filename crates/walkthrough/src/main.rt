@@ -1,4 +1,5 @@
-// Two exchanges, step by step: a master asks for the channel with a tag, and then this channel for its flow.
+// A whole exchange with a panel, step by step: a master asks for the channel with a tag, and then this channel for its flow;
+// setpoints are refused and granted; a damaged request changes nothing.
 #![tactic(auto)]
 
 mod channels;
@@ -51,9 +52,9 @@ fn run(rt: &HostRuntime) -> anyhow::Result<()> {
     text::unpack(heard.data, &mut letters)?;
     show_letters(rt, &letters)?;
 
-    let mut shelf = channels::load(rt)?;
+    let shelf = channels::load(rt)?;
     channels::show_rack(rt, &shelf)?;
-    exchanges::follow(rt, &mut shelf, sent)
+    exchanges::follow(rt, shelf, sent)
 }
 
 // Packs the tag and makes the question for it in the front of `line`.

@@ -1,10 +1,7 @@
-use Rattle.std.proofs.Common.{◌≡◌, true, is_ok, ◌∙◌, rules}
-use Rattle.std.proofs.lemmas.Bool.{cond-true}
-use Rattle.calls.specs.Views.{event_of}
-use Rattle.player.proofs.Printing.{one_called}
+use Rattle.calls.specs.Views.{result_of}
+use Rattle.recording.specs.Lines.{line_of}
+use Rattle.player.proofs.Printing.{heard}
 use Rattle.player.proofs.driving.PlayerDriver.hear.Goals as goal
 
-pub returns-else-is_err : goal.returns-else-is_err
-returns-else-is_err g c = λ h named t answers l.
-    let ok : is_ok c.push_line.result ≡ true = search rules in
-    one_called _ _ _ h (event_of c.args._call c.args.outcome) (c.push_line.ensures ∙ cond-true _ _ _ ok) (t l)
+pub returns-in_default : goal.returns-in_default
+returns-in_default g c = heard g.R.Read.remaining g.W.Write.contents (line_of (result_of c.args.outcome)) c.args.self.now.ending c.in_default.ensures

@@ -1,0 +1,34 @@
+use Rattle.std.proofs.Common.{[], ◌∷◌, ◌++◌, sym, subst, append_assoc, append-nil, arith, length, length-append, inl, inr, refl}
+use Rattle.calls.specs.Views.{call_of}
+use Rattle.runs.specs.Channel.{channel}
+use Rattle.runs.specs.Traces.{Trace, ◌▸◌}
+use Rattle.panel.specs.Working.{begins, goes, within, Underway}
+use Rattle.panel.proofs.Working.{goes_on}
+use Rattle.panel.proofs.driving.work_on.Goals as goal
+
+pub loop-init : goal.loop-init
+loop-init g c = ([], begins, omega arith, λ supply before earlier u. subst (λ (h : Trace channel). Underway g.R.Rack.records supply before h c.args.panel.now) (sym (append-nil earlier)) u)
+
+pub loop-preserved : goal.loop-preserved
+loop-preserved g c =
+    let l = c.loop.invariant in
+    let named = within (length c.args.buffer.now) (call_of c.in-Some.call) in
+    let made = rw c.loop.auto.buffer at c.perform.ensures in
+    let event = named ▸ made.result in (
+      l.0 ++ (event ∷ []),
+      goes l.1 c.in-Some.ensures made.heard,
+      omega (arith, length-append l.0 (event ∷ [])),
+      λ supply before earlier u. subst (λ (h : Trace channel). Underway g.R.Rack.records supply before h c.perform.new.panel) (append_assoc earlier l.0 (event ∷ [])) (goes_on g.R.Rack.records supply before (earlier ++ l.0) named made (l.3 supply before earlier u)),
+    )
+
+-- as many calls as a run may have
+pub returns : goal.returns
+returns g c =
+    let l = c.loop.invariant in
+    record { trace = l.0; driven = record { last = c.loop.driver; drives = l.1; ended = inr (omega (arith, c.loop-test.false), refl) }; underway = l.3 }
+
+-- the driver ended the run
+pub returns-in_default : goal.returns-in_default
+returns-in_default g c =
+    let l = c.loop.invariant in
+    record { trace = l.0; driven = record { last = c.loop.driver; drives = l.1; ended = inl c.in_default.ensures }; underway = l.3 }

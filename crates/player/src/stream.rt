@@ -1,0 +1,63 @@
+ghost use Rattle.std.specs.Prelude.{◌≡◌, ◌≤◌, length};
+ghost use Rattle.player.specs.declared.stream.Interruption.TheVariants.{Memory, Stream};
+
+use recording::Pending;
+use std::alloc::AllocError;
+use std::error::Error;
+use std::ops::Range;
+use std::{fmt, io};
+
+// How many bytes of a recording are read at once: 341 events.
+pub const BLOCK_LENGTH: usize = 4092;
+
+// Why a recording was not played to its end.
+#[derive(Clone, Copy, Debug)]
+pub enum Interruption {
+    Memory(AllocError),
+    // The input could not be read, or the output not written.
+    Stream(io::Error),
+    // More events than can be counted.
+    Endless,
+}
+
+impl From<AllocError> for Interruption {
+    ghost from_gives = { λ e r. r ≡ Memory e };
+
+    fn from(e: AllocError) -> Interruption {
+        Interruption::Memory(e)
+    }
+}
+
+impl From<io::Error> for Interruption {
+    ghost from_gives = { λ e r. r ≡ Stream e };
+
+    fn from(e: io::Error) -> Interruption {
+        Interruption::Stream(e)
+    }
+}
+
+impl fmt::Display for Interruption {
+    fn fmt<W: fmt::Write>(&self, f: &mut fmt::Formatter<W>) -> fmt::Result {
+        match self {
+            Interruption::Memory(e) => write!(f, "{e}"),
+            Interruption::Stream(e) => write!(f, "{e}"),
+            Interruption::Endless => write!(f, "the recording has more events than can be counted"),
+        }
+    }
+}
+
+impl Error for Interruption {}
+
+// A recording that is read by blocks. The lines of a block's events are kept until the next block is read.
+#[derive(Drop)]
+pub struct EventStream<R: Drop, W: Drop> {
+    pub(crate) input: R,
+    pub(crate) output: W,
+    pub(crate) block: [u8; BLOCK_LENGTH],
+    // Where the bytes of the block stand that came and were not taken yet.
+    pub(crate) unread: Range<usize>,
+    pub(crate) pending: Pending,
+    pub(crate) lines: Vec<u8>,
+    ghost size: { length block ≡ 4092 },
+    ghost within: { unread.end ≤ 4092 },
+}

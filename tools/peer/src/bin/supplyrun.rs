@@ -1,0 +1,32 @@
+//! Plays a recording on the panel of `rack.rec`, under the supply that is given.
+
+use peer::event::Kinds;
+use peer::player::play;
+use peer::supply::supply_of;
+use std::error::Error;
+use std::process::ExitCode;
+use std::{env, fs, io};
+
+fn main() -> ExitCode {
+    match run() {
+        Ok(()) => ExitCode::SUCCESS,
+        Err(error) => {
+            eprintln!("supplyrun: {error}");
+            ExitCode::FAILURE
+        }
+    }
+}
+
+fn run() -> Result<(), Box<dyn Error>> {
+    let words: Vec<_> = env::args_os().skip(1).collect();
+    let [word] = words.as_slice() else {
+        return Err("usage: supplyrun SUPPLY".into());
+    };
+    let supply = word
+        .to_str()
+        .and_then(supply_of)
+        .ok_or("the supply is not a number from 0 to 4294967295")?;
+    let file = fs::read("rack.rec")?;
+    play(&file, supply, Kinds::Supplyrun, io::stdin().lock(), io::stdout().lock())?;
+    Ok(())
+}
