@@ -11,8 +11,6 @@ import sys
 
 sys.dont_write_bytecode = True  # leaves no cache folder in the repository
 
-from pathlib import Path
-
 import edge_recordings
 import figure_recordings
 import tables
@@ -20,11 +18,6 @@ import worked_recordings
 from chosen import chosen
 from generator import recording
 from runtable import answer, run_line
-
-# Until there is a crate for it: then the name is that of the crate, and the folder
-# is left out.
-NAME = "corpora"
-FOLDER = Path(__file__).resolve().parent
 
 
 def recordings():
@@ -36,7 +29,7 @@ def operations():
     return tables.distinct([run_line(one) for one in recordings()])
 
 
-TABLE = tables.Table(NAME, operations, answer, FOLDER)
+TABLE = tables.Table("runvectors", operations, answer)
 
 if __name__ == "__main__":
     sys.exit(tables.main(TABLE, sys.argv[1:]))

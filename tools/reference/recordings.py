@@ -1,4 +1,4 @@
-"""Write the recordings of linerun, or check them.
+"""Write the recordings of linerun and of supplyrun, or check them.
 
     python3 tools/reference/recordings.py            writes all files anew
     python3 tools/reference/recordings.py --check    only compares
@@ -10,18 +10,25 @@ sys.dont_write_bytecode = True  # leaves no cache folder in the repository
 
 from pathlib import Path
 
+import linerun
 import recording_example
+import recording_exchange
 import recording_mixed
-from linerun import output
+import supplyrun
 
 FOLDER = Path(__file__).resolve().parent / "recordings"
-RECORDINGS = {"example": recording_example, "mixed": recording_mixed}
+RECORDINGS = {"example": recording_example, "mixed": recording_mixed,
+              "exchange": recording_exchange}
 
 
 def files(recording):
     """The bytes of each file, by name."""
     rack, events = recording.rack(), recording.events()
-    return {"rack.rec": rack, "stdin": events, "stdout": output(rack, events)}
+    supply = getattr(recording, "SUPPLY", None)
+    if supply is None:
+        return {"rack.rec": rack, "stdin": events, "stdout": linerun.output(rack, events)}
+    return {"args": f"{supply}\n".encode("ascii"), "rack.rec": rack, "stdin": events,
+            "stdout": supplyrun.output(supply, rack, events)}
 
 
 def every_file():

@@ -2,6 +2,7 @@
 #![tactic(auto)]
 
 use anyhow::Context;
+use recording::Format;
 use setup::MOST_SUPPLY;
 use shelf::RACK_FILE;
 use std::fs;
@@ -11,6 +12,7 @@ fn main(rt: HostRuntime) -> anyhow::Result<()> {
     // Under the largest supply fifteen channels always fit.
     player::run(
         rt.alloc(),
+        Format::Linerun,
         file.as_slice(),
         MOST_SUPPLY,
         rt.stdin(),

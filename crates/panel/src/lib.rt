@@ -9,6 +9,6 @@ mod operations;
 mod setting_up;
 mod state;
 
-pub use driving::{Driver, work};
+pub use driving::{Driver, work, work_on};
 pub use serving::Answer;
 pub use state::Panel;

@@ -8,7 +8,7 @@ use Rattle.recording.proofs.Cuts.{short, complete, cut_anywhere}
 use Rattle.std.specs.List.{between}
 use Rattle.std.proofs.lemmas.Slice.{between_is}
 use Rattle.recording.specs.Lines.{refusal_line}
-use Rattle.recording.specs.Outputs.{rest_line}
+use Rattle.player.specs.Outputs.{rest_line}
 use Rattle.recording.specs.Recordings.{events_of, rest_of}
 
 -- what a read took of known bytes

@@ -1,2 +1,3 @@
 mod Bytes
 mod Printing
+mod Pauses

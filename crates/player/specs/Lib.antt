@@ -1,3 +1,4 @@
+pub mod Outputs
 pub mod Streams
 pub mod Players
 pub mod Playing

@@ -1,28 +1,14 @@
 -- What a player prints in all.
-use Rattle.std.specs.Prelude.{◌≡◌, ℕ, List, ◌++◌, Ok, Option, MatchOption, IsErr, OnOk, ⊤}
-use Rattle.line.specs.Characters.{Character}
-use Rattle.record.specs.declared.Record.{Record}
-use Rattle.recording.specs.Outputs.{played, lines_of, rest_line}
+use Rattle.std.specs.Prelude.{◌≡◌, ℕ, List, ◌++◌, Ok, Some, None, Option, MatchOption, IsErr, IfOk, ⊤}
+use Rattle.recording.specs.Events.{calls, pauses}
 use Rattle.recording.specs.Lines.{line_of}
+use Rattle.recording.specs.declared.events.Pause.{Pause}
 use Rattle.runs.specs.Channel.{channel}
 use Rattle.runs.specs.Traces.{Call, Event}
+use Rattle.player.specs.Outputs.{State, lines_of, lines_after, rest_line}
 use Rattle.player.specs.declared.driving.Player.{Player}
 use Rattle.player.specs.declared.stream.EventStream.{EventStream}
 use Rattle.player.specs.Streams.{Streams, AtEnd}
-
--- the lines of a call and of the events after it
-abbrev pub after_call : ℕ → List Record → List Character → Call channel → List (List ℕ) → List ℕ
-after_call capacity records unended c events =
-    let p = played capacity records unended (Ok c) in
-    p.line ++ lines_of capacity p.rack p.unended events
-
--- unless the player was interrupted, it has not ended, and this is so of its stream
-abbrev pub Going : {R W : Type 0} → (EventStream R W → Type 0) → Player R W → Type 0
-Going so p = MatchOption p.ending (so p.stream) IsErr
-
--- if it has ended, and was not interrupted, this is so of its stream
-abbrev pub Ended : {R W : Type 0} → (EventStream R W → Type 0) → Player R W → Type 0
-Ended so p = MatchOption p.ending ⊤ (λ r. OnOk r (so p.stream))
 
 module _ {R W : Type 0} (remaining : R → Option (List ℕ)) (contents : W → Option (List ℕ)) where
   -- what was printed, what the events to come print, and the line of the rest are this in all
@@ -42,17 +28,27 @@ module _ {R W : Type 0} (remaining : R → Option (List ℕ)) (contents : W → 
     pub ends : AtEnd remaining contents s events rest
     pub all : total ≡ out ++ rest_line rest
 
+  -- unless the player was interrupted, it has not paused, and prints these lines
+  abbrev pub Going : Player R W → (List (List ℕ) → List ℕ) → List ℕ → Type 0
+  Going p lines total = MatchOption p.paused (Prints p.stream lines total) IsErr
+
+  -- where the recording has ended, or waits for what is done with the panel between calls
+  abbrev pub Waits : Player R W → State → List ℕ → Option Pause → Type 0
+  Waits p s total (Some pause) = Prints p.stream (lines_after p.format s (Ok (pauses pause))) total
+  Waits p s total None = AllPrinted p.stream total
+
+  -- if the player has paused, and was not interrupted, it waits
+  abbrev pub Paused : Player R W → State → List ℕ → Type 0
+  Paused p s total = MatchOption p.paused ⊤ (λ r. IfOk r (Waits p s total))
+
   -- It named a call: what is printed in all, on a panel in any state, is what that call prints and the events after it.
   abbrev pub Names : Player R W → Player R W → Call channel → Type 0
-  Names p p' c = (capacity : ℕ) (records : List Record) (unended : List Character) (total : List ℕ)
-      → Going (λ s. Prints s (lines_of capacity records unended) total) p → Going (λ s. Prints s (after_call capacity records unended c) total) p'
+  Names p p' c = (s : State) (total : List ℕ) → Going p (lines_of p.format s) total → Going p' (lines_after p'.format s (Ok (calls c))) total
 
   -- it was told a call with its result, and prints its line
   abbrev pub Hears : Player R W → Player R W → Event channel → Type 0
-  Hears p p' e = (lines : List (List ℕ) → List ℕ) (total : List ℕ)
-      → Going (λ s. Prints s (λ events. line_of e.result ++ lines events) total) p → Going (λ s. Prints s lines total) p'
+  Hears p p' e = (p'.format ≡ p.format) × ((lines : List (List ℕ) → List ℕ) (total : List ℕ) → Going p (λ events. line_of e.result ++ lines events) total → Going p' lines total)
 
   -- it ended the run
   abbrev pub Ends : Player R W → Player R W → Type 0
-  Ends p p' = (capacity : ℕ) (records : List Record) (unended : List Character) (total : List ℕ)
-      → Going (λ s. Prints s (lines_of capacity records unended) total) p → Ended (λ s. AllPrinted s total) p'
+  Ends p p' = (s : State) (total : List ℕ) → Going p (lines_of p.format s) total → Paused p' s total

@@ -1,15 +1,14 @@
 -- What playing a recording on the shelf of a record file does.
-use Rattle.std.specs.Prelude.{ℕ, ◌⊎◌, List, [], ◌++◌, Some, None, Ok, Err, Option, Result}
+use Rattle.std.specs.Prelude.{◌≡◌, ℕ, ◌⊎◌, List, [], ◌++◌, Some, None, Ok, Err, Option, Result}
 use Rattle.std.proofs.Common.{inl, inr}
 use Rattle.std.specs.Option.{option_map}
-use Rattle.header.specs.Shares.{capacity_of}
 use Rattle.panel.specs.Working.{Driven, Underway}
 use Rattle.panel.specs.declared.state.Panel.{Panel}
 use Rattle.rack.specs.Files.{refusal_of, file_answer, file_records}
 use Rattle.rack.specs.declared.files.FileFault.{FileFault}
 use Rattle.record.specs.declared.Record.{Record}
 use Rattle.recording.specs.Lines.{refusal_line}
-use Rattle.recording.specs.Outputs.{lines_of, rest_line}
+use Rattle.recording.specs.declared.events.Format.{Format}
 use Rattle.recording.specs.Recordings.{events_of, rest_of}
 use Rattle.refusals.specs.Refusals.{number_of}
 use Rattle.refusals.specs.declared.Refusal.{Refusal}
@@ -18,6 +17,9 @@ use Rattle.runs.specs.Traces.{Call, Event, Trace}
 use Rattle.setup.specs.SetUps.{set_up_refusal}
 use Rattle.shelf.specs.Rows.{records_in}
 use Rattle.shelf.specs.declared.shelf.Shelf.{Shelf}
+use Rattle.player.specs.Outputs.{State, lines_of, rest_line}
+use Rattle.player.specs.Players.{Prints}
+use Rattle.player.specs.declared.driving.Player.{Player}
 use Rattle.player.specs.declared.playing.PlayFault.{PlayFault}
 use Rattle.player.specs.declared.playing.PlayFault.TheVariants.{File, SetUp}
 
@@ -40,22 +42,35 @@ play_fault (Ok u) refusal = option_map inr refusal
 abbrev pub records_of : Shelf → List Record
 records_of s = records_in s.rows.items
 
-module _ {Dr : Type 0} (names : Dr → Dr → Call channel → Type 0) (hears : Dr → Dr → Event channel → Type 0) (ends : Dr → Dr → Type 0) (d d' : Dr) where
-  -- The run that was played: a panel over a shelf of the records was set up, and worked by the driver. Of the trace of these calls
-  -- the whole promise holds.
-  pub record Played (supply : ℕ) (records : List Record) : Type 0 where
-    pub after : Panel Shelf
+module _ {Dr : Type 0} (names : Dr → Dr → Call channel → Type 0) (hears : Dr → Dr → Event channel → Type 0) (ends : Dr → Dr → Type 0) (room : ℕ) (d d' : Dr) where
+  -- The run that was played: a panel over a shelf of the records was set up, and worked by the driver, with a buffer for as much
+  -- room. Of the trace of these calls the whole promise holds.
+  pub record Played (supply : ℕ) (records : List Record) (panel : Panel Shelf) : Type 0 where
     pub trace : Trace channel
-    pub driven : Driven names hears 64 ends d trace d'
-    pub underway : Underway records_of supply records trace after
+    pub driven : Driven names hears room ends d trace d'
+    pub underway : Underway records_of supply records trace panel
+
+-- A panel that was set up is in this state. Of the trace of all calls since then the whole promise holds.
+pub record Stands (panel : Panel Shelf) (s : State) : Type 0 where
+  pub before : List Record
+  pub trace : Trace channel
+  pub underway : Underway records_of s.supply before trace panel
+  pub records_are : s.records ≡ records_of panel.rack
+  pub unended_is : s.unended ≡ underway.line
+
+-- What a recording waited for is done: the panel is in some state, on which the events to come print the rest.
+pub record Attended {R W : Type 0} (remaining : R → Option (List ℕ)) (contents : W → Option (List ℕ)) (p : Player R W) (panel : Panel Shelf) (total : List ℕ) : Type 0 where
+  pub state : State
+  pub stands : Stands panel state
+  pub prints : Prints remaining contents p.stream (lines_of p.format state) total
 
 -- what is printed where a recording is not played by a fault, or else is: the line of the fault; or the lines of the events, and
 -- that of the rest
-abbrev pub output_for : ℕ → Option (FileFault ⊎ ℕ) → List Record → List ℕ → List ℕ
-output_for supply (Some (inl fault)) records input = refusal_line (number_of (refusal_of fault))
-output_for supply (Some (inr number)) records input = refusal_line number
-output_for supply None records input = lines_of (capacity_of supply) records [] (events_of input) ++ rest_line (rest_of input)
+abbrev pub output_for : Format → ℕ → Option (FileFault ⊎ ℕ) → List Record → List ℕ → List ℕ
+output_for f supply (Some (inl fault)) records input = refusal_line (number_of (refusal_of fault))
+output_for f supply (Some (inr number)) records input = refusal_line number
+output_for f supply None records input = lines_of f (record { supply = supply; records = records; unended = [] }) (events_of input) ++ rest_line (rest_of input)
 
--- WHAT A RECORDING PRINTS: of the bytes of the record file and of those of the recording, under a supply
-abbrev pub output_of : ℕ → List ℕ → List ℕ → List ℕ
-output_of supply file input = output_for supply (play_fault (file_answer 15 file) (set_up_refusal supply (file_records file))) (file_records file) input
+-- WHAT A RECORDING PRINTS: of its format, its supply, the bytes of the record file, and its own bytes
+abbrev pub output_of : Format → ℕ → List ℕ → List ℕ → List ℕ
+output_of f supply file input = output_for f supply (play_fault (file_answer 15 file) (set_up_refusal supply (file_records file))) (file_records file) input

@@ -2,6 +2,7 @@
 #![tactic(auto)]
 
 mod driving;
+mod pausing;
 mod playing;
 mod stream;
 mod streaming;

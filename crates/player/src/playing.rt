@@ -1,4 +1,4 @@
-ghost use Rattle.std.specs.Prelude.{◌≡◌, ℕ, false, List, ◌++◌, Some, is_ok, IfOk, OnOk};
+ghost use Rattle.std.specs.Prelude.{◌≡◌, ℕ, false, List, ◌++◌, length, Some, is_ok, IfOk};
 ghost use Rattle.std.specs.Option.{option_map};
 ghost use Rattle.std.specs.Result.{result_err};
 ghost use Rattle.rack.specs.Files.{file_answer, file_records};
@@ -8,13 +8,16 @@ ghost use Rattle.player.specs.declared.playing.PlayFault.TheVariants.{File, SetU
 
 use crate::driving::Player;
 use crate::stream::Interruption;
-use line::MOST_ANSWER;
-use panel::{Driver, Panel, work};
+use panel::{Driver, Panel, work, work_on};
 use rack::FileFault;
+use recording::Format;
 use refusals::Refusal;
 use shelf::Shelf;
 use std::alloc::Global;
 use std::io::{Read, Write};
+
+// The most room that an event asks for.
+const MOST_ROOM: usize = 255;
 
 // Why a recording is not played.
 #[derive(Clone, Copy, PartialEq, Debug)]
@@ -53,34 +56,49 @@ impl From<Refusal> for PlayFault {
     }
 }
 
-// Plays a recording: a driver works a panel over the shelf of a record file, under a supply in mL/min.
-pub fn play<D: Driver>(file: &[u8], supply: u32, driver: &mut D) -> Result<(), PlayFault>
+// Plays a recording: a driver works a panel over the shelf of a record file, under a supply in mL/min, until it ends the run. The
+// panel goes on from there.
+pub fn play<D: Driver>(
+    file: &[u8],
+    supply: u32,
+    driver: &mut D,
+    buffer: &mut [u8],
+) -> Result<Panel<Shelf>, PlayFault>
     ensures fault { option_map fault_seen (result_err result) ≡ play_fault (file_answer 15 file.now) (set_up_refusal supply (file_records file.now)) }
-    ensures played { OnOk result (Played D.Driver.names D.Driver.hears D.Driver.ends driver.old driver.new supply (file_records file.now)) }
+    ensures played { IfOk result (Played D.Driver.names D.Driver.hears D.Driver.ends (length buffer.old) driver.old driver.new supply (file_records file.now)) }
     ensures unasked { is_ok result ≡ false → driver.new ≡ driver.old }
 {
     let mut shelf = Shelf::blank();
     shelf.fill(file)?;
     let mut panel = Panel::new(shelf);
-    let mut buffer = [0; MOST_ANSWER];
-    work(&mut panel, supply, driver, &mut buffer)?;
-    Ok(())
+    work(&mut panel, supply, driver, buffer)?;
+    Ok(panel)
 }
 
 // Plays a recording whole, and gives the writer back: it prints the lines of the events, or the one line of a refused record file
 // or set-up. However the reader cuts the recording into blocks, the lines are those of the whole.
 pub fn run<R: Read + Drop, W: Write + Drop>(
     heap: Global,
+    format: Format,
     file: &[u8],
     supply: u32,
     input: R,
     output: W,
 ) -> Result<W, Interruption>
-    ensures { (bytes out : List ℕ) → R.Read.remaining input ≡ Some bytes → W.Write.contents output ≡ Some out → IfOk result (λ w. W.Write.contents w ≡ Some (out ++ output_of supply file.now bytes)) }
+    ensures { (bytes out : List ℕ) → R.Read.remaining input ≡ Some bytes → W.Write.contents output ≡ Some out → IfOk result (λ w. W.Write.contents w ≡ Some (out ++ output_of format supply file.now bytes)) }
 {
-    let mut player = Player::new(heap, input, output);
-    match play(file, supply, &mut player) {
-        Ok(()) => player.finish(),
-        Err(fault) => player.refuse(fault.refusal()),
+    let mut player = Player::new(heap, format, input, output);
+    let mut buffer = [0; MOST_ROOM];
+    let mut panel = match play(file, supply, &mut player, &mut buffer) {
+        Ok(panel) => panel,
+        Err(fault) => return player.refuse(fault.refusal()),
+    };
+    for _ in 0..u64::MAX {
+        let Some(pause) = player.take_pause()? else {
+            return player.finish();
+        };
+        player.attend(&mut panel, pause)?;
+        work_on(&mut panel, &mut player, &mut buffer);
     }
+    Err(Interruption::Endless)
 }

@@ -2,7 +2,7 @@ ghost use Rattle.std.specs.Prelude.{◌≡◌, ℕ, false, Some, None, List, [],
 ghost use Rattle.std.specs.Option.{option_to_list};
 ghost use Rattle.calls.specs.Views.{result_of};
 ghost use Rattle.recording.specs.Lines.{line_of};
-ghost use Rattle.recording.specs.Outputs.{rest_line};
+ghost use Rattle.player.specs.Outputs.{rest_line};
 ghost use Rattle.recording.specs.Recordings.{events_of, rest_of};
 ghost use Rattle.player.specs.Streams.{unread_of, Streams, AtEnd, Next};
 
@@ -107,6 +107,13 @@ impl<R: Read + Drop, W: Write + Drop> EventStream<R, W> {
         ensures { (events : List (List ℕ)) (rest out : List ℕ) → Streams R.Read.remaining W.Write.contents self.old events rest out → OnOk result (Streams R.Read.remaining W.Write.contents self.new events rest (out ++ line_of (result_of outcome.entry))) }
     {
         push_line(&mut self.lines, outcome)
+    }
+
+    // A line of another kind.
+    pub fn print(&mut self, line: &[u8]) -> Result<(), AllocError>
+        ensures { (events : List (List ℕ)) (rest out : List ℕ) → Streams R.Read.remaining W.Write.contents self.old events rest out → OnOk result (Streams R.Read.remaining W.Write.contents self.new events rest (out ++ line.now)) }
+    {
+        self.lines.extend_from_slice(line)
     }
 
     // Writes out what waits, and gives the writer back.

@@ -9,15 +9,21 @@ use Rattle.record.specs.declared.readings.Reading.{Reading}
 use Rattle.runs.specs.Channel.{channel, sample, key}
 use Rattle.runs.specs.Traces as traces
 use Rattle.calls.specs.Views.{call_of}
-use Rattle.calls.specs.declared.Call.{Call}
+use Rattle.calls.specs.declared.Call as code
+use Rattle.recording.specs.declared.events.Event.{Event}
+use Rattle.recording.specs.declared.events.Event.TheVariants.{Call, Pause as PauseEvent}
+use Rattle.recording.specs.declared.events.Format.{Format}
+use Rattle.recording.specs.declared.events.Format.TheVariants.{Linerun, Supplyrun}
+use Rattle.recording.specs.declared.events.Pause.{Pause}
+use Rattle.recording.specs.declared.events.Pause.TheVariants.{Look, SetUp}
 
 -- Bytes 4 to 7: the flow; 8 to 11: the temperature.
 abbrev pub reading_in : List ℕ → Reading
 reading_in event = record { flow = value_of (number32 event 4); temperature = value_of (number32 event 8) }
 
--- A call whose event is in form; 110 where it is not.
-abbrev pub in_form : Bool → traces.Call channel → Result (traces.Call channel) ℕ
-in_form formed call = cond formed (Ok call) (Err 110)
+-- What an event in form asks for; 110 where it is not.
+abbrev pub in_form : {X : Type 0} → Bool → X → Result X ℕ
+in_form formed x = cond formed (Ok x) (Err 110)
 
 -- By byte 0: 1 a character, of a byte and its marks; 2 a gap, with room for 64 bytes; 3 a sample and 4 a key turn, of a channel. What is not used is 0.
 abbrev pub event_call : List ℕ → Result (traces.Call channel) ℕ
@@ -29,6 +35,37 @@ event_call event =
     (Err 110))))
 
 -- what the decoder answers: a call, or the number of a refusal
-abbrev pub viewed : Result Call Refusal → Result (traces.Call channel) ℕ
+abbrev pub viewed : Result code.Call Refusal → Result (traces.Call channel) ℕ
 viewed (Ok call) = Ok (call_of call)
 viewed (Err refusal) = Err (number_of refusal)
+
+-- what an event asks for: a call, or what is done between the calls of a run
+pub data Asked : Type 0 where
+  calls : traces.Call channel → Asked
+  pauses : Pause → Asked
+
+abbrev pub called : Result (traces.Call channel) ℕ → Result Asked ℕ
+called (Ok call) = Ok (calls call)
+called (Err number) = Err number
+
+-- By byte 0: 5 a gap of some room; 6 a look at a channel; 7 a set-up under the supply in bytes 4 to 7.
+abbrev pub own_asks : List ℕ → Result Asked ℕ
+own_asks event =
+    cond (slice_index event 0 == 5) (in_form (zeros? (between 2 12 event)) (calls (traces.gap (slice_index event 1))))
+    (cond (slice_index event 0 == 6) (in_form (zeros? (between 2 12 event)) (pauses (Look (slice_index event 1))))
+    (cond (slice_index event 0 == 7) (in_form (zeros? (between 1 4 event) && zeros? (between 8 12 event)) (pauses (SetUp (number32 event 4))))
+    (Err 110)))
+
+-- Recordings of supplyrun have these three kinds besides.
+abbrev pub event_asks : Format → List ℕ → Result Asked ℕ
+event_asks Linerun event = called (event_call event)
+event_asks Supplyrun event = cond (nat_le 5 (slice_index event 0) && nat_le (slice_index event 0) 7) (own_asks event) (called (event_call event))
+
+-- what the decoder answers
+abbrev pub asked_of : Event → Asked
+asked_of (Call c) = calls (call_of c)
+asked_of (PauseEvent p) = pauses p
+
+abbrev pub asked_by : Result Event Refusal → Result Asked ℕ
+asked_by (Ok e) = Ok (asked_of e)
+asked_by (Err refusal) = Err (number_of refusal)

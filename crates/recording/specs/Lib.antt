@@ -2,4 +2,3 @@ pub mod Events
 pub mod Lines
 pub mod Recordings
 pub mod Collecting
-pub mod Outputs

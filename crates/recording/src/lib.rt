@@ -3,10 +3,12 @@
 
 mod collector;
 mod decoder;
+mod events;
 mod pending;
 mod printer;
 
 pub use decoder::{EVENT_LENGTH, decode_event};
+pub use events::{Event, Format, Pause};
 pub use pending::Pending;
 pub use printer::{push_line, push_refusal};
 

@@ -4,7 +4,6 @@ use Rattle.player.proofs.playing.play.Goals as goal
 
 pub returns-clause-played : goal.returns-clause-played
 returns-clause-played g c = record {
-  after = c.work.new.panel;
   trace = c.in_ok-work.ensures.worked.trace;
   driven = c.in_ok-work.ensures.worked.driven;
   underway = rw (← c.in_ok-fill.ensures.after, ← ap records_of c.new-panel.ensures.rack) c.in_ok-work.ensures.worked.underway;
