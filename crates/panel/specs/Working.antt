@@ -9,7 +9,12 @@ use Rattle.runs.specs.SetUps.{SetUp, Promised}
 use Rattle.runs.specs.Steps.{Run}
 use Rattle.runs.specs.Traces.{Call, Result, Event, Trace, gap, ◌▸◌}
 use Rattle.panel.specs.declared.state.Panel.{Panel}
-use Rattle.panel.specs.Panels.{Does}
+use Rattle.panel.specs.Panels.{Does, buffer_of}
+
+-- the buffer after calls, one after another: the answers stand in its front
+abbrev pub buffer_after : Trace channel → List ℕ → List ℕ
+buffer_after [] buffer = buffer
+buffer_after (e ∷ trace) buffer = buffer_after trace (buffer_of e.result buffer)
 
 -- the call that is made where one was named, with a buffer of n bytes: a gap has as much room as was asked for, or all the buffer
 abbrev pub within : ℕ → Call channel → Call channel
@@ -32,10 +37,11 @@ module _ {Dr : Type 0} (names : Dr → Dr → Call channel → Type 0) (hears : 
 
 module _ {X : Type 0} (records : X → List Record) where
   -- One call on a panel, which was named by its driver, and told to it with its result.
-  pub record Performed {Dr : Type 0} (p p' : Panel X) (hears : Dr → Dr → Event channel → Type 0) (d d' : Dr) (call : Call channel) : Type 0 where
+  pub record Performed {Dr : Type 0} (p p' : Panel X) (hears : Dr → Dr → Event channel → Type 0) (d d' : Dr) (buffer buffer' : List ℕ) (call : Call channel) : Type 0 where
     pub result : Result channel
     pub does : Does records p p' call result
     pub heard : hears d d' (call ▸ result)
+    pub left : buffer' ≡ buffer_of result buffer
 
   -- THE PROMISE, WHOLE, of a panel that was set up under a supply when its rack meant the records before, and of all calls since,
   -- a trace: it is a run of the relation from those records to the ones that the rack means now and to the unended transmission,
@@ -48,16 +54,18 @@ module _ {X : Type 0} (records : X → List Record) where
     pub promised : Promised supply before trace (records p.rack) line
     pub holds : Holds p.receiver line
 
-  module _ (p p' : Panel X) {Dr : Type 0} (names : Dr → Dr → Call channel → Type 0) (hears : Dr → Dr → Event channel → Type 0) (ends : Dr → Dr → Type 0) (n : ℕ) (d d' : Dr) where
+  module _ (p p' : Panel X) {Dr : Type 0} (names : Dr → Dr → Call channel → Type 0) (hears : Dr → Dr → Event channel → Type 0) (ends : Dr → Dr → Type 0) (d d' : Dr) (buffer buffer' : List ℕ) where
     -- A panel was set up under a supply, and worked by a driver that named each call knowing the results of all earlier ones: of the
     -- trace of these calls the whole promise holds.
     pub record Worked (supply : ℕ) : Type 0 where
       pub trace : Trace channel
-      pub driven : Driven names hears n ends d trace d'
+      pub driven : Driven names hears (length buffer) ends d trace d'
       pub underway : Underway supply (records p.rack) trace p'
+      pub left : buffer' ≡ buffer_after trace buffer
 
     -- it was worked on: whatever was promised of the calls till then is promised of those and these
     pub record WorkedOn : Type 0 where
       pub trace : Trace channel
-      pub driven : Driven names hears n ends d trace d'
+      pub driven : Driven names hears (length buffer) ends d trace d'
+      pub left : buffer' ≡ buffer_after trace buffer
       pub underway : (supply : ℕ) (before : List Record) (earlier : Trace channel) → Underway supply before earlier p → Underway supply before (earlier ++ trace) p'

@@ -44,9 +44,10 @@ pub fn work<R: Rack, D: Driver>(
     buffer: &mut [u8],
 ) -> Result<(), Refusal>
     ensures refusal { option_map number_of (result_err result) ≡ set_up_refusal supply (R.Rack.records panel.old.rack) }
-    ensures worked { OnOk result (Worked R.Rack.records panel.old panel.new D.Driver.names D.Driver.hears D.Driver.ends (length buffer.old) driver.old driver.new supply) }
+    ensures worked { OnOk result (Worked R.Rack.records panel.old panel.new D.Driver.names D.Driver.hears D.Driver.ends driver.old driver.new buffer.old buffer.new supply) }
     ensures same { is_ok result ≡ false → panel.new ≡ panel.old }
     ensures unasked { is_ok result ≡ false → driver.new ≡ driver.old }
+    ensures unwritten { is_ok result ≡ false → buffer.new ≡ buffer.old }
 {
     panel.set_up(supply)?;
     work_on(panel, driver, buffer);
@@ -55,7 +56,7 @@ pub fn work<R: Rack, D: Driver>(
 
 // Works a panel on by a driver until that ends the run: whatever the run was till then, it goes on by these calls.
 pub fn work_on<R: Rack, D: Driver>(panel: &mut Panel<R>, driver: &mut D, buffer: &mut [u8])
-    ensures { WorkedOn R.Rack.records panel.old panel.new D.Driver.names D.Driver.hears D.Driver.ends (length buffer.old) driver.old driver.new }
+    ensures { WorkedOn R.Rack.records panel.old panel.new D.Driver.names D.Driver.hears D.Driver.ends driver.old driver.new buffer.old buffer.new }
 {
     // Nothing says that a driver ends, so the turns are counted.
     for _ in 0..u64::MAX {
@@ -69,7 +70,7 @@ pub fn work_on<R: Rack, D: Driver>(panel: &mut Panel<R>, driver: &mut D, buffer:
 
 // One call that the driver named, and what came of it told.
 fn perform<R: Rack, D: Driver>(panel: &mut Panel<R>, driver: &mut D, call: Call, buffer: &mut [u8])
-    ensures { Performed R.Rack.records panel.old panel.new D.Driver.hears driver.old driver.new (within (length buffer.old) (call_of call)) }
+    ensures { Performed R.Rack.records panel.old panel.new D.Driver.hears driver.old driver.new buffer.old buffer.new (within (length buffer.old) (call_of call)) }
 {
     let result = match call {
         Call::Character { byte, marks } => panel.character(byte, marks),
@@ -85,7 +86,7 @@ fn perform<R: Rack, D: Driver>(panel: &mut Panel<R>, driver: &mut D, call: Call,
 
 // A gap with this buffer, and what came of it told.
 fn end<R: Rack, D: Driver>(panel: &mut Panel<R>, driver: &mut D, out: &mut [u8])
-    ensures { Performed R.Rack.records panel.old panel.new D.Driver.hears driver.old driver.new (gap (length out.old)) }
+    ensures { Performed R.Rack.records panel.old panel.new D.Driver.hears driver.old driver.new out.old out.new (gap (length out.old)) }
 {
     let call = Call::Gap { room: out.len() };
     match panel.gap(out) {

@@ -62,9 +62,9 @@ set_up s supply p p' stands same taken begun =
     let u = begins records_of supply p p' same taken begun in
     record { before = records_of p.rack; trace = []; underway = u; records_are = stands.records_are ∙ ap records_of (sym same); unended_is = sym (line_run channel (capacity_of supply) u.ran) }
 
-module _ {R W : Type 0} (remaining : R → Option (List ℕ)) (contents : W → Option (List ℕ)) (room : ℕ) (enough : 64 ≤ room) (p p' : Player R W) (panel panel' : Panel Shelf) where
+module _ {R W : Type 0} (remaining : R → Option (List ℕ)) (contents : W → Option (List ℕ)) (buffer buffer' : List ℕ) (enough : 64 ≤ length buffer) (p p' : Player R W) (panel panel' : Panel Shelf) where
   -- a run that goes on
-  pub worked_on : (s : State) → Stands panel s → WorkedOn records_of panel panel' (Names remaining contents) (Hears remaining contents) (Ends remaining contents) room p p' → (total : List ℕ)
+  pub worked_on : (s : State) → Stands panel s → WorkedOn records_of panel panel' (Names remaining contents) (Hears remaining contents) (Ends remaining contents) p p' buffer buffer' → (total : List ℕ)
       → Going remaining contents p (lines_of p.format s) total → (s' : State) × Stands panel' s' × Paused remaining contents p' s' total
   worked_on s stands w total going =
       let u = w.underway s.supply stands.before stands.trace stands.underway in
@@ -76,7 +76,7 @@ module _ {R W : Type 0} (remaining : R → Option (List ℕ)) (contents : W → 
       let stands' : Stands panel' s' = record { before = stands.before; trace = stands.trace ++ w.trace; underway = u; records_are = refl; unended_is = refl } in (
         s',
         stands',
-        driven remaining contents room s.supply enough p p' s.records (records_of panel'.rack) s.unended u.line w.trace w.driven run total going,
+        driven remaining contents (length buffer) s.supply enough p p' s.records (records_of panel'.rack) s.unended u.line w.trace w.driven run total going,
       )
 
 -- what a player waits for that has paused, and was not interrupted

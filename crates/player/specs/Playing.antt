@@ -1,8 +1,8 @@
 -- What playing a recording on the shelf of a record file does.
-use Rattle.std.specs.Prelude.{◌≡◌, ℕ, ◌⊎◌, List, [], ◌++◌, Some, None, Ok, Err, Option, Result}
+use Rattle.std.specs.Prelude.{◌≡◌, ℕ, ◌⊎◌, List, [], ◌++◌, length, Some, None, Ok, Err, Option, Result}
 use Rattle.std.proofs.Common.{inl, inr}
 use Rattle.std.specs.Option.{option_map}
-use Rattle.panel.specs.Working.{Driven, Underway}
+use Rattle.panel.specs.Working.{Driven, Underway, buffer_after}
 use Rattle.panel.specs.declared.state.Panel.{Panel}
 use Rattle.rack.specs.Files.{refusal_of, file_answer, file_records}
 use Rattle.rack.specs.declared.files.FileFault.{FileFault}
@@ -42,12 +42,13 @@ play_fault (Ok u) refusal = option_map inr refusal
 abbrev pub records_of : Shelf → List Record
 records_of s = records_in s.rows.items
 
-module _ {Dr : Type 0} (names : Dr → Dr → Call channel → Type 0) (hears : Dr → Dr → Event channel → Type 0) (ends : Dr → Dr → Type 0) (room : ℕ) (d d' : Dr) where
-  -- The run that was played: a panel over a shelf of the records was set up, and worked by the driver, with a buffer for as much
-  -- room. Of the trace of these calls the whole promise holds.
+module _ {Dr : Type 0} (names : Dr → Dr → Call channel → Type 0) (hears : Dr → Dr → Event channel → Type 0) (ends : Dr → Dr → Type 0) (d d' : Dr) (buffer buffer' : List ℕ) where
+  -- The run that was played: a panel over a shelf of the records was set up, and worked by the driver, with a buffer. Of the trace
+  -- of these calls the whole promise holds.
   pub record Played (supply : ℕ) (records : List Record) (panel : Panel Shelf) : Type 0 where
     pub trace : Trace channel
-    pub driven : Driven names hears room ends d trace d'
+    pub driven : Driven names hears (length buffer) ends d trace d'
+    pub left : buffer' ≡ buffer_after trace buffer
     pub underway : Underway records_of supply records trace panel
 
 -- A panel that was set up is in this state. Of the trace of all calls since then the whole promise holds.

@@ -1,4 +1,4 @@
-ghost use Rattle.std.specs.Prelude.{◌≡◌, ℕ, false, List, ◌++◌, length, Some, is_ok, IfOk};
+ghost use Rattle.std.specs.Prelude.{◌≡◌, ℕ, false, List, ◌++◌, Some, is_ok, IfOk};
 ghost use Rattle.std.specs.Option.{option_map};
 ghost use Rattle.std.specs.Result.{result_err};
 ghost use Rattle.rack.specs.Files.{file_answer, file_records};
@@ -65,8 +65,9 @@ pub fn play<D: Driver>(
     buffer: &mut [u8],
 ) -> Result<Panel<Shelf>, PlayFault>
     ensures fault { option_map fault_seen (result_err result) ≡ play_fault (file_answer 15 file.now) (set_up_refusal supply (file_records file.now)) }
-    ensures played { IfOk result (Played D.Driver.names D.Driver.hears D.Driver.ends (length buffer.old) driver.old driver.new supply (file_records file.now)) }
+    ensures played { IfOk result (Played D.Driver.names D.Driver.hears D.Driver.ends driver.old driver.new buffer.old buffer.new supply (file_records file.now)) }
     ensures unasked { is_ok result ≡ false → driver.new ≡ driver.old }
+    ensures unwritten { is_ok result ≡ false → buffer.new ≡ buffer.old }
 {
     let mut shelf = Shelf::blank();
     shelf.fill(file)?;

@@ -9,6 +9,7 @@ returns-in-Ok-None g c = record {
   result = silent;
   does = rw c.in-Ok-None.field-0-is at c.in-Ok-None.ensures.does;
   heard = c.hear.ensures;
+  left = rw c.in-Ok-None.field-0-is at c.in-Ok-None.ensures.buffer;
 }
 
 pub returns-in-Ok-Some : goal.returns-in-Ok-Some
@@ -16,6 +17,7 @@ returns-in-Ok-Some g c = record {
   result = answered c.in-Ok-Some.field-0-0.channel (take c.in-Ok-Some.field-0-0.length c.gap.new.out);
   does = rw c.in-Ok-Some.field-0-is at c.in-Ok-Some.ensures.does;
   heard = rw (← sub-zero c.in-Ok-Some.field-0-0.length) c.hear-in-Ok-Some.ensures;
+  left = rw c.in-Ok-Some.field-0-is at c.in-Ok-Some.ensures.buffer;
 }
 
 pub returns-in-Err : goal.returns-in-Err
@@ -23,4 +25,5 @@ returns-in-Err g c = record {
   result = refused (number_of c.in-Err.refusal);
   does = c.in-Err.ensures.does;
   heard = c.hear-in-Err.ensures;
+  left = c.in-Err.ensures.buffer;
 }

@@ -49,5 +49,5 @@ loop-preserved g c = (
       let prints : Prints g.R.Read.remaining g.W.Write.contents c.loop.player.stream (lines_after c.loop.player.format i.0 (Ok (pauses c.in-Some.pause))) total = rw c.in-Some.is at w in
       let a = c.in_ok-attend.ensures.attended i.0 total i.1 (rw (c.in_ok-pause.ensures.stream, c.in_ok-pause.ensures.format) prints) in
       let going : Going g.R.Read.remaining g.W.Write.contents c.attend.new.self (lines_of c.attend.new.self.format a.state) total = rw (c.in_ok-attend.ensures.paused ∙ c.in_ok-pause.ensures.going) a.prints in
-      worked_on g.R.Read.remaining g.W.Write.contents 255 (omega arith) c.attend.new.self c.work_on.new.driver c.attend.new.panel c.work_on.new.panel a.state a.stands (rw c.loop.invariant.0 at c.work_on.ensures) total going,
+      worked_on g.R.Read.remaining g.W.Write.contents c.loop.buffer c.work_on.new.buffer (omega (arith, c.loop.invariant.0)) c.attend.new.self c.work_on.new.driver c.attend.new.panel c.work_on.new.panel a.state a.stands c.work_on.ensures total going,
 )
