@@ -9,7 +9,7 @@ sys.dont_write_bytecode = True  # leaves no cache folder in the repository
 
 import expectation
 import frames
-import selftest_corpora
+import selftest_runvectors
 import selftest_figures
 import selftest_generator
 import selftest_line
@@ -207,7 +207,7 @@ def main():
     selftest_supplyrun.run()
     selftest_generator.run()
     selftest_figures.run()
-    selftest_corpora.run()
+    selftest_runvectors.run()
     selftest_recordings.run()
     print(f"{expectation.checks} checks passed")
 

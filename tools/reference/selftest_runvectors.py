@@ -1,6 +1,6 @@
 """Tests of the table of recordings, run by selftest.py."""
 
-import corpora
+import runvectors
 import figure_recordings
 import tables
 from chosen import KINDS, chosen
@@ -34,10 +34,10 @@ def covers():
 
 
 def stored():
-    lines = corpora.operations()
+    lines = runvectors.operations()
     expect("size", len(tables.as_bytes(lines)) <= MOST_BYTES, True)
     expect("lines", max(len(line) for line in lines) <= LONGEST_LINE, True)
-    expect("table", tables.check(corpora.TABLE), None)
+    expect("table", tables.check(runvectors.TABLE), None)
 
 
 def run():

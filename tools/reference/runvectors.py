@@ -1,7 +1,7 @@
 """Write the table of recordings and what is printed of them, or check it.
 
-    python3 tools/reference/corpora.py            writes both files anew
-    python3 tools/reference/corpora.py --check    only compares
+    python3 tools/reference/runvectors.py            writes both files anew
+    python3 tools/reference/runvectors.py --check    only compares
 
 Its rows are the worked examples of the documents, the figures of the manuals,
 and few generated recordings that show all that the generator can show.
