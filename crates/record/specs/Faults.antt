@@ -1,5 +1,5 @@
 -- What can be wrong with the 80 bytes of a record.
-use Rattle.std.specs.Prelude.{◌≡◌, ℕ, ◌<◌, Bool, true, false, not, ◌||◌, List, [], ◌∷◌, ◌++◌, drop, find, Option, nat_lt, slice_index}
+use Rattle.std.specs.Prelude.{◌≡◌, ℕ, ◌<◌, Bool, true, false, not, ◌||◌, List, [], ◌∷◌, ◌++◌, drop, codes, find, decimal, Option, nat_lt, slice_index}
 use Rattle.std.specs.Float.{float_is_finite}
 use Rattle.setpoint.specs.Lawful.{is_lawful}
 use Rattle.setpoint.specs.Units.{is_full_scale}
@@ -19,6 +19,10 @@ offset_of FullScale = 16
 offset_of Flow = 20
 offset_of Temperature = 24
 offset_of Reserved = 73
+
+-- The words in which a fault is printed.
+abbrev pub words_of : RecordFault → List ℕ
+words_of fault = codes "field out of range at offset " ++ decimal (offset_of fault)
 
 -- The fields that can be out of range, in the order of their offsets: those before the reading, and the rest.
 abbrev pub field_faults : List RecordFault

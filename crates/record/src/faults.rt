@@ -1,6 +1,6 @@
-ghost use Rattle.std.specs.Prelude.{◌≡◌};
+ghost use Rattle.std.specs.Prelude.{◌≡◌, Some};
 ghost use Rattle.std.specs.Result.{result_err};
-ghost use Rattle.record.specs.Faults.{offset_of, offends, fault_of};
+ghost use Rattle.record.specs.Faults.{offset_of, words_of, offends, fault_of};
 
 use crate::bytes::{all_zero, u32_at};
 use crate::layout::*;
@@ -32,6 +32,8 @@ impl RecordFault {
 }
 
 impl fmt::Display for RecordFault {
+    ghost output = { λ fault. Some (words_of fault) };
+
     fn fmt<W: fmt::Write>(&self, f: &mut fmt::Formatter<W>) -> fmt::Result {
         let offset = self.offset();
         write!(f, "field out of range at offset {offset}")
