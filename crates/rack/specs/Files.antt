@@ -1,10 +1,12 @@
 -- Record files: records of 80 bytes, one after another.
-use Rattle.std.specs.Prelude.{ℕ, suc, ◌/◌, ◌%◌, cond, ◌&&◌, List, [], ◌∷◌, map, length, Some, None, Ok, Err, Option, Result, ◌==◌, nat_le}
+use Rattle.std.specs.Prelude.{ℕ, suc, ◌/◌, ◌%◌, cond, ◌&&◌, List, [], ◌∷◌, ◌++◌, map, length, codes, decimal, Some, None, Ok, Err, Option, Result, ◌==◌, nat_le}
 use Rattle.std.specs.Simd.{first_chunks}
+use Rattle.record.specs.Faults as faults
 use Rattle.record.specs.Faults.{fault_of}
 use Rattle.record.specs.Layout.{decoded}
 use Rattle.record.specs.declared.Record.{Record}
 use Rattle.record.specs.declared.faults.RecordFault.{RecordFault}
+use Rattle.refusals.specs.Refusals as refusals
 use Rattle.refusals.specs.declared.Refusal.{Refusal}
 use Rattle.refusals.specs.declared.Refusal.TheVariants.{BadRecord, NumberOfRecords}
 use Rattle.rack.specs.declared.files.FileFault.{FileFault}
@@ -15,6 +17,11 @@ use Rattle.rack.specs.declared.files.RecordError.{RecordError}
 abbrev pub refusal_of : FileFault → Refusal
 refusal_of Count = NumberOfRecords
 refusal_of (Bad e) = BadRecord
+
+-- the words in which a fault of a file is printed: those of its refusal, and then which record and which field
+abbrev pub words_of : FileFault → List ℕ
+words_of Count = refusals.words_of NumberOfRecords
+words_of (Bad e) = refusals.words_of BadRecord ++ codes " " ++ decimal e.number ++ codes ": " ++ faults.words_of e.fault
 
 -- the records of a file, as rows of 80 bytes
 abbrev pub rows_of : List ℕ → List (List ℕ)

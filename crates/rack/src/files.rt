@@ -1,9 +1,9 @@
-ghost use Rattle.std.specs.Prelude.{◌≡◌, None, OnOk};
+ghost use Rattle.std.specs.Prelude.{◌≡◌, Some, None, OnOk};
 ghost use Rattle.std.specs.Result.{result_err};
 ghost use Rattle.record.specs.Faults.{fault_of};
 ghost use Rattle.record.specs.Lawful.{Lawful};
 ghost use Rattle.record.specs.Layout.{decoded};
-ghost use Rattle.rack.specs.Files.{refusal_of, fault_in};
+ghost use Rattle.rack.specs.Files.{refusal_of, words_of, fault_in};
 ghost use Rattle.rack.specs.declared.files.FileFault.TheVariants.{Record as Bad};
 
 use record::{RECORD_LENGTH, RecordFault};
@@ -40,6 +40,8 @@ impl FileFault {
 }
 
 impl fmt::Display for FileFault {
+    ghost output = { λ fault. Some (words_of fault) };
+
     fn fmt<W: fmt::Write>(&self, f: &mut fmt::Formatter<W>) -> fmt::Result {
         let refusal = self.refusal();
         match self {

@@ -13,6 +13,8 @@ use record::{Fields, Reading};
 // The most channels of a panel: of a rack's records no more can be asked and written.
 pub const MOST_CHANNELS: u8 = 15;
 
+const _: () = prove!(MOST_CHANNELS == 15);
+
 // A rack of channels. What it means is a list of records, numbered from 0, all of them lawful.
 pub trait Rack {
     ghost records: { Self → List ChannelRecord };
