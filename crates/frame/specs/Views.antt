@@ -1,5 +1,5 @@
 -- What the structs of the code say, with lists in the place of references.
-use Rattle.std.specs.Prelude.{◌≡◌, ℕ, ◌⊎◌, List, length, Ok, Err, Result}
+use Rattle.std.specs.Prelude.{◌≡◌, ℕ, Bool, true, false, List, length, Ok, Err, Result, ◌==◌}
 use Rattle.refusals.specs.declared.Refusal.{Refusal}
 use Rattle.refusals.specs.Refusals.{number_of}
 use Rattle.frame.specs.declared.Address.{Address}
@@ -25,9 +25,13 @@ abbrev pub Fitting : Address → Type 0
 Fitting (Short s) = length s.now ≡ 1
 Fitting (Long s) = length s.now ≡ 5
 
--- an address made of bytes: those of a width are one of that width
+abbrev pub long? : Address → Bool
+long? (Short s) = false
+long? (Long s) = true
+
+-- an address made of bytes: a long one of five, and a short one of all others
 abbrev pub MadeOf : List ℕ → Address → Type 0
-MadeOf bytes a = (address_bytes a ≡ bytes) × ((length bytes ≡ 1) ⊎ (length bytes ≡ 5) → Fitting a)
+MadeOf bytes a = (address_bytes a ≡ bytes) × (long? a ≡ (length bytes == 5))
 
 abbrev pub frame_parts : Frame → Parts
 frame_parts f = record { address = address_bytes f.address; command = f.command; «data» = f.«data».now; check = f.check }
