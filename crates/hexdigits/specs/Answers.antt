@@ -1,5 +1,5 @@
 -- What a reading of hexadecimal text answers.
-use Rattle.std.specs.Prelude.{◌≡◌, ℕ, List, Some, None, Ok, Err, vec_items, Option, Result, Vec}
+use Rattle.std.specs.Prelude.{◌≡◌, ℕ, List, codes, Some, None, Ok, Err, vec_items, Option, Result, Vec}
 use Rattle.std.specs.declared.alloc.Global.{Global}
 use Rattle.hexdigits.specs.declared.HexFault.{HexFault}
 use Rattle.hexdigits.specs.declared.HexFault.TheVariants.{NotHex, Memory}
@@ -9,3 +9,8 @@ abbrev pub Reads : Option (List ℕ) → Result (Vec ℕ Global) HexFault → Ty
 Reads bytes (Ok v) = bytes ≡ Some (vec_items v)
 Reads bytes (Err NotHex) = bytes ≡ None
 Reads bytes (Err Memory) = Unit {0}
+
+-- the words in which a fault is printed
+abbrev pub words_of : HexFault → List ℕ
+words_of NotHex = codes "not capital hexadecimal"
+words_of Memory = codes "no memory"

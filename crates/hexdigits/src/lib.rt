@@ -4,7 +4,7 @@
 ghost use Rattle.std.specs.Prelude.{◌≡◌, ◌<◌, ◌++◌, take, length, IfSome, IfOk, OnOk, Some, string_bytes};
 ghost use Rattle.hexdigits.specs.declared.HexFault.TheVariants.{Memory};
 ghost use Rattle.hexdigits.specs.Hex.{digit_of, hex_of, value_of, byte_of, bytes_of};
-ghost use Rattle.hexdigits.specs.Answers.{Reads};
+ghost use Rattle.hexdigits.specs.Answers.{Reads, words_of};
 
 use std::alloc::{AllocError, AllocFailed, Global};
 use std::error::Error;
@@ -19,6 +19,8 @@ pub enum HexFault {
 }
 
 impl fmt::Display for HexFault {
+    ghost output = { λ fault. Some (words_of fault) };
+
     fn fmt<W: fmt::Write>(&self, f: &mut fmt::Formatter<W>) -> fmt::Result {
         match self {
             HexFault::NotHex => f.write_str("not capital hexadecimal"),

@@ -1,5 +1,5 @@
 -- What a reading of bytes answers.
-use Rattle.std.specs.Prelude.{◌≡◌, ℕ, List, Some, None, Ok, Err, vec_items, Option, Result, Vec}
+use Rattle.std.specs.Prelude.{◌≡◌, ℕ, List, codes, Some, None, Ok, Err, vec_items, Option, Result, Vec}
 use Rattle.std.specs.declared.alloc.Global.{Global}
 use Rattle.hexdigits.specs.declared.HexFault.{HexFault}
 use Rattle.hexdigits.specs.declared.HexFault.TheVariants.{NotHex, Memory as NoMemory}
@@ -17,3 +17,9 @@ Reads bytes (Err Memory) = Unit {0}
 abbrev pub told_of : HexFault → WordFault
 told_of NotHex = NotBytes
 told_of NoMemory = Memory
+
+-- the words in which a fault is printed
+abbrev pub words_of : WordFault → List ℕ
+words_of NotBytes = codes "a word that is no bytes"
+words_of NotPattern = codes "a word that is no pattern"
+words_of Memory = codes "no memory"

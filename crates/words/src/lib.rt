@@ -5,7 +5,7 @@ ghost use Rattle.std.specs.Prelude.{◌≡◌, [], IfOk, Some, string_bytes};
 ghost use Rattle.hexdigits.specs.Hex.{before};
 ghost use Rattle.std.specs.Option.{option_map};
 ghost use Rattle.words.specs.Words.{word_of, bytes_at, number_after, pattern_at};
-ghost use Rattle.words.specs.Answers.{Reads, told_of};
+ghost use Rattle.words.specs.Answers.{Reads, told_of, words_of};
 
 use hexdigits::{HexFault, byte, parse_hex, to_hex};
 use std::alloc::{AllocError, Global};
@@ -26,6 +26,8 @@ pub enum WordFault {
 }
 
 impl fmt::Display for WordFault {
+    ghost output = { λ fault. Some (words_of fault) };
+
     fn fmt<W: fmt::Write>(&self, f: &mut fmt::Formatter<W>) -> fmt::Result {
         match self {
             WordFault::NotBytes => f.write_str("a word that is no bytes"),
