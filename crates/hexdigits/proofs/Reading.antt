@@ -1,15 +1,16 @@
 -- The reading of hexadecimal text, one byte after another.
-use Rattle.std.proofs.Common.{◌≡◌, ℕ, zero, suc, ◌+◌, ◌*◌, ◌/◌, ◌%◌, ◌<◌, ◌≤◌, List, [], ◌∷◌, ◌++◌, length, get_or, take, drop, Some, None, Option, Err, Result, sym, refl, ap, ◌∙◌, append_assoc, add-one, arith}
+use Rattle.std.proofs.Common.{◌≡◌, ℕ, true, false, ◌&&◌, is_some, zero, suc, ◌+◌, ◌*◌, ◌/◌, ◌%◌, ◌<◌, ◌≤◌, List, [], ◌∷◌, ◌++◌, length, get_or, take, drop, Some, None, Option, Err, Result, sym, refl, ap, ◌∙◌, append_assoc, add-one, arith}
 use lib.Utf8.{encode}
 use Rattle.std.specs.Simd.{first_chunks}
 use Rattle.std.proofs.lemmas.Str.Ascii.{encode_ascii}
 use Rattle.std.proofs.lemmas.List.{at_drop_more, at_drop_all, append-nil}
-use Rattle.std.specs.List.{AllByRecursion}
+use Rattle.std.specs.List.{AllByRecursion, list_all}
 use Rattle.std.proofs.lemmas.Bool.Decides.{nat_tests}
 use Rattle.std.specs.Option.{ok_or}
 use Rattle.hexdigits.specs.declared.HexFault.{HexFault}
 use Rattle.hexdigits.specs.declared.HexFault.TheVariants.{NotHex}
-use Rattle.hexdigits.specs.Hex.{digit_of, hex_of, value_of, byte_of, before, bytes_of}
+use Rattle.hexdigits.specs.Hex.{digit_of, hex_of, value_of, byte_of, pair?, before, bytes_of}
+use Rattle.hexdigits.specs.Answers.{some_bytes?}
 
 digit_back : (n : ℕ) → n < 16 → value_of (digit_of n) ≡ Some n
 digit_back n h = grind (arith, nat_tests)
@@ -41,6 +42,32 @@ pairs_read zero (a ∷ text) h = absurd (omega arith)
 pairs_read (suc n) [] h = absurd (omega arith)
 pairs_read (suc n) (a ∷ []) h = absurd (omega arith)
 pairs_read (suc n) (a ∷ b ∷ text) h = ap (before (byte_of a b)) (pairs_read n text (omega arith))
+
+-- pairs are bytes where each of them is one
+before_some : (b : Option ℕ) (rest : Option (List ℕ)) → is_some (before b rest) ≡ (is_some b && is_some rest)
+before_some (Some b) (Some rest) = refl
+before_some (Some b) None = refl
+before_some None rest = refl
+
+all_some : (pairs : List (List ℕ)) → is_some (in_pairs pairs) ≡ list_all pair? pairs
+all_some [] = refl
+all_some (p ∷ pairs) = before_some (byte_of (get_or p 0 0) (get_or p 1 0)) (in_pairs pairs) ∙ ap (λ t. pair? p && t) (all_some pairs)
+
+none_there : (o : Option (List ℕ)) → is_some o ≡ false → o ≡ None
+none_there None h = refl
+none_there (Some bytes) h = absurd (cc)
+
+pub not_all : (pairs : List (List ℕ)) → list_all pair? pairs ≡ false → in_pairs pairs ≡ None
+not_all pairs h = none_there (in_pairs pairs) (all_some pairs ∙ h)
+
+kept : (b : Option ℕ) (rest : Option (List ℕ)) → is_some (before b rest) ≡ true → some_bytes? (before b rest) ≡ true
+kept (Some b) (Some rest) h = refl
+kept (Some b) None h = absurd (cc)
+kept None rest h = absurd (cc)
+
+pub all_kept : (pairs : List (List ℕ)) → list_all pair? pairs ≡ true → 0 < length pairs → some_bytes? (in_pairs pairs) ≡ true
+all_kept [] h l = absurd (omega arith)
+all_kept (p ∷ pairs) h l = kept (byte_of (get_or p 0 0) (get_or p 1 0)) (in_pairs pairs) (all_some (p ∷ pairs) ∙ h)
 
 -- a loop that has read the bytes `front` of pairs: at a pair that is no byte, at one more, and at the end
 module _ (pairs : List (List ℕ)) (front : List ℕ) (i : ℕ) (inv : after front (in_pairs (drop i pairs)) ≡ in_pairs pairs) where

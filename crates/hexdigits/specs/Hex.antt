@@ -1,5 +1,5 @@
 -- Bytes as capital hexadecimal text, two digits each, the high one first.
-use Rattle.std.specs.Prelude.{ℕ, ◌+◌, ◌-◌, ◌*◌, ◌/◌, ◌%◌, cond, ◌&&◌, List, [], ◌∷◌, Some, None, Option, nat_le, nat_lt}
+use Rattle.std.specs.Prelude.{ℕ, Bool, ◌+◌, ◌-◌, ◌*◌, ◌/◌, ◌%◌, cond, ◌&&◌, List, [], ◌∷◌, Some, None, Option, is_some, nat_le, nat_lt, slice_index}
 
 -- the digit of a number below 16: '0' to '9' and then 'A' to 'F'
 abbrev pub digit_of : ℕ → ℕ
@@ -21,6 +21,10 @@ paired None low = None
 
 abbrev pub byte_of : ℕ → ℕ → Option ℕ
 byte_of high low = paired (value_of high) (value_of low)
+
+-- whether a pair of digits is a byte
+abbrev pub pair? : List ℕ → Bool
+pair? pair = is_some (byte_of (slice_index pair 0) (slice_index pair 1))
 
 -- a byte in front of the bytes of what follows
 abbrev pub before : Option ℕ → Option (List ℕ) → Option (List ℕ)

@@ -2,8 +2,9 @@
 #![tactic(auto)]
 
 ghost use Rattle.std.specs.Prelude.{◌≡◌, ◌<◌, ◌++◌, take, length, IfSome, IfOk, OnOk, Some, string_bytes};
+ghost use Rattle.std.specs.List.{list_all};
 ghost use Rattle.hexdigits.specs.declared.HexFault.TheVariants.{Memory};
-ghost use Rattle.hexdigits.specs.Hex.{digit_of, hex_of, value_of, byte_of, bytes_of};
+ghost use Rattle.hexdigits.specs.Hex.{digit_of, hex_of, value_of, byte_of, pair?, bytes_of};
 ghost use Rattle.hexdigits.specs.Answers.{Reads, words_of};
 
 use std::alloc::{AllocError, AllocFailed, Global};
@@ -102,12 +103,21 @@ pub fn push_hex(text: &mut Vec<u8>, bytes: &[u8]) -> Result<(), AllocError>
     Ok(())
 }
 
-// Reads the bytes of a hexadecimal text.
+fn all_bytes(pairs: &[[u8; 2]]) -> bool
+    ensures { result ≡ list_all pair? pairs.now }
+{
+    pairs.iter().all(|pair| byte(pair[0], pair[1]).is_some())
+}
+
+// Reads the bytes of a hexadecimal text. All of it is judged before memory is asked for.
 pub fn parse_hex(heap: Global, text: &[u8]) -> Result<Vec<u8>, HexFault>
     ensures { Reads (bytes_of text.now) result }
 {
     let (pairs, rest) = text.as_chunks::<2>();
     if !rest.is_empty() {
+        return Err(HexFault::NotHex);
+    }
+    if !all_bytes(pairs) {
         return Err(HexFault::NotHex);
     }
     let mut bytes = Vec::new(heap);
