@@ -38,6 +38,7 @@ impl<R: Read + Drop, W: Write + Drop> Player<R, W> {
 }
 
 // What the next event asks for that asks for something, if there is one more. Others are refused on the way.
+#[inline(always)]
 fn next_asked<R: Read + Drop, W: Write + Drop>(
     stream: &mut EventStream<R, W>,
     format: Format,
@@ -63,6 +64,7 @@ impl<R: Read + Drop, W: Write + Drop> Driver for Player<R, W> {
 
     ghost ends = { Ends R.Read.remaining W.Write.contents };
 
+    #[inline(always)]
     fn next(&mut self) -> Option<Call> {
         if self.paused.is_some() {
             return None;
@@ -77,6 +79,7 @@ impl<R: Read + Drop, W: Write + Drop> Driver for Player<R, W> {
         None
     }
 
+    #[inline(always)]
     fn hear(&mut self, _call: Call, outcome: Result<Outcome<'_>, Refusal>) {
         if let Err(e) = self.stream.tell(outcome) {
             self.paused = Some(Err(Interruption::Memory(e)));

@@ -29,6 +29,7 @@ impl<R: Read + Drop, W: Write + Drop> EventStream<R, W> {
     }
 
     // The next event, if there is one more.
+    #[inline(always)]
     pub fn next_event(&mut self) -> Result<Option<[u8; EVENT_LENGTH]>, Interruption>
         ensures { (events : List (List ℕ)) (rest out : List ℕ) → Streams R.Read.remaining W.Write.contents self.old events rest out → IfOk result (λ o. Next R.Read.remaining W.Write.contents self.new events rest out o) }
     {
@@ -45,6 +46,7 @@ impl<R: Read + Drop, W: Write + Drop> EventStream<R, W> {
     }
 
     // The next event that the block completes.
+    #[inline(always)]
     fn event_of_block(&mut self) -> Option<[u8; EVENT_LENGTH]>
         ensures next { (events : List (List ℕ)) (rest out : List ℕ) → Streams R.Read.remaining W.Write.contents self.old events rest out → (later : List (List ℕ)) × (events ≡ option_to_list result ++ later) × Streams R.Read.remaining W.Write.contents self.new later rest out }
         ensures all { result ≡ None → unread_of self.new ≡ [] }
@@ -56,6 +58,7 @@ impl<R: Read + Drop, W: Write + Drop> EventStream<R, W> {
     }
 
     // The next event where it stands in the block whole, as nearly every one does: no step for each of its bytes.
+    #[inline(always)]
     fn whole_event(&mut self) -> Option<[u8; EVENT_LENGTH]>
         ensures { (events : List (List ℕ)) (rest out : List ℕ) → Streams R.Read.remaining W.Write.contents self.old events rest out → (later : List (List ℕ)) × (events ≡ option_to_list result ++ later) × Streams R.Read.remaining W.Write.contents self.new later rest out }
     {
@@ -103,6 +106,7 @@ impl<R: Read + Drop, W: Write + Drop> EventStream<R, W> {
     }
 
     // The line of what came of an event, if it has one.
+    #[inline(always)]
     pub fn tell(&mut self, outcome: Result<Outcome<'_>, Refusal>) -> Result<(), AllocError>
         ensures { (events : List (List ℕ)) (rest out : List ℕ) → Streams R.Read.remaining W.Write.contents self.old events rest out → OnOk result (Streams R.Read.remaining W.Write.contents self.new events rest (out ++ line_of (result_of outcome.entry))) }
     {

@@ -18,6 +18,7 @@ pub const EVENT_LENGTH: usize = 12;
 // | 4 key       | channel   | 1 open, 0 shut    | 0 | 0      | 0           |
 //
 // Flow and temperature are binary32 patterns, the most significant byte first. Anything else is out of form.
+#[inline(always)]
 pub fn decode_event(event: &[u8; EVENT_LENGTH]) -> Result<Call, Refusal>
     ensures { viewed result ≡ event_call event.now }
 {

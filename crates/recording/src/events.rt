@@ -40,6 +40,7 @@ impl Format {
     // | 7 set-up    | 0         | 0       | supply | 0       |
     //
     // The supply has its most significant byte first. Anything else is out of form.
+    #[inline(always)]
     pub fn decode(self, event: &[u8; EVENT_LENGTH]) -> Result<Event, Refusal>
         ensures { asked_by result ≡ event_asks self event.now }
     {
@@ -53,6 +54,7 @@ impl Format {
     }
 }
 
+#[inline(always)]
 fn decode_call(event: &[u8; EVENT_LENGTH]) -> Result<Event, Refusal>
     ensures { asked_by result ≡ called (event_call event.now) }
 {

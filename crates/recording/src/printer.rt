@@ -9,6 +9,7 @@ use refusals::Refusal;
 use std::alloc::{AllocError, Global};
 
 // Appends the line of an outcome, or changes nothing where memory is short.
+#[inline(always)]
 pub fn push_line(
     lines: &mut Vec<u8>,
     outcome: Result<Outcome<'_>, Refusal>,
