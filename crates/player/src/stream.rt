@@ -1,4 +1,5 @@
 ghost use Rattle.std.specs.Prelude.{◌≡◌, ◌≤◌, length};
+ghost use Rattle.std.specs.IoError.{error_kind};
 ghost use Rattle.player.specs.declared.stream.Interruption.TheVariants.{Memory, Stream};
 
 use recording::Pending;
@@ -14,8 +15,8 @@ pub const BLOCK_LENGTH: usize = 4092;
 #[derive(Clone, Copy, Debug)]
 pub enum Interruption {
     Memory(AllocError),
-    // The input could not be read, or the output not written.
-    Stream(io::Error),
+    // The input could not be read, or the output not written. An `io::Error` is large, and a result is handed on at each event.
+    Stream(io::ErrorKind),
     // More events than can be counted.
     Endless,
 }
@@ -29,10 +30,10 @@ impl From<AllocError> for Interruption {
 }
 
 impl From<io::Error> for Interruption {
-    ghost from_gives = { λ e r. r ≡ Stream e };
+    ghost from_gives = { λ e r. r ≡ Stream (error_kind e) };
 
     fn from(e: io::Error) -> Interruption {
-        Interruption::Stream(e)
+        Interruption::Stream(e.kind())
     }
 }
 
@@ -40,7 +41,7 @@ impl fmt::Display for Interruption {
     fn fmt<W: fmt::Write>(&self, f: &mut fmt::Formatter<W>) -> fmt::Result {
         match self {
             Interruption::Memory(e) => write!(f, "{e}"),
-            Interruption::Stream(e) => write!(f, "{e}"),
+            Interruption::Stream(kind) => write!(f, "{kind}"),
             Interruption::Endless => write!(f, "the recording has more events than can be counted"),
         }
     }
