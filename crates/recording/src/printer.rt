@@ -1,12 +1,16 @@
 ghost use Rattle.std.specs.Prelude.{◌≡◌, ◌++◌, decimal, is_ok, IfOk, OnOk, if◌then◌else◌};
 ghost use Rattle.refusals.specs.Refusals.{number_of};
 ghost use Rattle.calls.specs.Views.{result_of};
-ghost use Rattle.recording.specs.Lines.{refusal_line, line_of};
+ghost use Rattle.recording.specs.Lines.{refusal_line, answer_line, line_of};
 
 use calls::Outcome;
 use hexdigits::push_hex;
+use line::MOST_ANSWER;
 use refusals::Refusal;
 use std::alloc::{AllocError, Global};
+
+// Of an answer: a channel, a space, the digits, a line feed.
+const LONGEST_LINE: usize = 3 + 1 + 2 * MOST_ANSWER + 1;
 
 // Appends the line of an outcome, or changes nothing where memory is short.
 #[inline(always)]
@@ -16,11 +20,14 @@ pub fn push_line(
 ) -> Result<(), AllocError>
     ensures { lines.new.items ≡ (if is_ok result then lines.old.items ++ line_of (result_of outcome.entry) else lines.old.items) }
 {
-    // Most calls have no line.
-    if let Ok(Outcome::Taken) = outcome {
-        return Ok(());
-    }
-    let line = line(*lines.allocator(), outcome)?;
+    let heap = *lines.allocator();
+    let line = match outcome {
+        // Most calls have no line.
+        Ok(Outcome::Taken) => return Ok(()),
+        Ok(Outcome::Silent) => return lines.extend_from_slice(b"silent\n"),
+        Ok(Outcome::Answered { channel, bytes }) => answer_line(heap, channel, bytes)?,
+        Err(refusal) => refusal_line(heap, refusal)?,
+    };
     lines.extend_from_slice(line.as_slice())
 }
 
@@ -31,26 +38,26 @@ pub fn push_refusal(lines: &mut Vec<u8>, refusal: Refusal) -> Result<(), AllocEr
     push_line(lines, Err(refusal))
 }
 
-// The line of an outcome, digit by digit: a formatter would cost more than all else that comes of a gap.
-fn line(heap: Global, outcome: Result<Outcome<'_>, Refusal>) -> Result<Vec<u8>, AllocError>
-    ensures { IfOk result (λ line. line.items ≡ line_of (result_of outcome.entry)) }
+// The line of an answer, digit by digit: a formatter would cost more than all else that comes of a gap.
+fn answer_line(heap: Global, channel: u8, bytes: &[u8]) -> Result<Vec<u8>, AllocError>
+    ensures { IfOk result (λ line. line.items ≡ answer_line channel bytes.now) }
 {
     let mut line = Vec::new(heap);
-    match outcome {
-        Ok(Outcome::Taken) => {}
-        Ok(Outcome::Silent) => line.extend_from_slice(b"silent\n")?,
-        Ok(Outcome::Answered { channel, bytes }) => {
-            push_number(&mut line, channel)?;
-            line.push(b' ')?;
-            push_hex(&mut line, bytes)?;
-            line.push(b'\n')?;
-        }
-        Err(refusal) => {
-            line.extend_from_slice(b"refused ")?;
-            push_number(&mut line, refusal.number())?;
-            line.push(b'\n')?;
-        }
-    }
+    line.reserve(LONGEST_LINE)?;
+    push_number(&mut line, channel)?;
+    line.push(b' ')?;
+    push_hex(&mut line, bytes)?;
+    line.push(b'\n')?;
+    Ok(line)
+}
+
+fn refusal_line(heap: Global, refusal: Refusal) -> Result<Vec<u8>, AllocError>
+    ensures { IfOk result (λ line. line.items ≡ refusal_line (number_of refusal)) }
+{
+    let mut line = Vec::new(heap);
+    line.extend_from_slice(b"refused ")?;
+    push_number(&mut line, refusal.number())?;
+    line.push(b'\n')?;
     Ok(line)
 }
 
