@@ -111,11 +111,19 @@ hex_more i bytes c d h b e f =
     rw (e, f, encode_ascii (digit_of high) (digit_ascii high (omega arith)), encode_ascii (digit_of low) (digit_ascii low (omega arith)), add-one, taken i bytes h) (append_assoc (hex_of (take i bytes)) (digit_of high ∷ []) (digit_of low ∷ []))
 
 -- the same, of digits that were pushed one by one
-pub hex_pushed : (front : List ℕ) (i : ℕ) (bytes : List ℕ) (c d : ℕ) → i < length bytes → c ≡ digit_of (get_or bytes i 0 / 16) → d ≡ digit_of (get_or bytes i 0 % 16)
-    → ((front ++ hex_of (take i bytes)) ++ (c ∷ [])) ++ (d ∷ []) ≡ front ++ hex_of (take (i + 1) bytes)
-hex_pushed front i bytes c d h e f =
-    let before = hex_of (take i bytes) in
-    rw (add-one, taken i bytes h, ← e, ← f) (append_assoc (front ++ before) (c ∷ []) (d ∷ []) ∙ append_assoc front before (c ∷ d ∷ []))
+pub hex_pushed : (i : ℕ) (bytes : List ℕ) (c d : ℕ) → i < length bytes → c ≡ digit_of (get_or bytes i 0 / 16) → d ≡ digit_of (get_or bytes i 0 % 16)
+    → (hex_of (take i bytes) ++ (c ∷ [])) ++ (d ∷ []) ≡ hex_of (take (i + 1) bytes)
+hex_pushed i bytes c d h e f = rw (add-one, taken i bytes h, ← e, ← f) (append_assoc (hex_of (take i bytes)) (c ∷ []) (d ∷ []))
+
+-- two digits for each byte
+pub hex_long : (bytes : List ℕ) → length (hex_of bytes) ≡ 2 * length bytes
+hex_long [] = refl
+hex_long (b ∷ bytes) = let rest = hex_long bytes in omega arith
+
+-- the digits of bytes in two parts
+pub hex_parts : (front back : List ℕ) → hex_of (front ++ back) ≡ hex_of front ++ hex_of back
+hex_parts [] back = refl
+hex_parts (b ∷ front) back = rw (hex_parts front back) refl
 
 -- an option without a value, told as a fault
 pub refused : (o : Option ℕ) (e : HexFault) → ◌≡◌ {A = Result ℕ HexFault} (Err e) (ok_or o NotHex) → (o ≡ None) × (e ≡ NotHex)

@@ -1,7 +1,7 @@
 // Bytes as capital hexadecimal text.
 #![tactic(auto)]
 
-ghost use Rattle.std.specs.Prelude.{◌≡◌, ◌<◌, ◌++◌, take, length, IfSome, IfOk, OnOk, Some, string_bytes};
+ghost use Rattle.std.specs.Prelude.{◌≡◌, ◌*◌, ◌<◌, ◌≤◌, ◌++◌, take, length, IfSome, IfOk, OnOk, Some, string_bytes};
 ghost use Rattle.std.specs.List.{list_all};
 ghost use Rattle.hexdigits.specs.declared.HexFault.TheVariants.{Memory};
 ghost use Rattle.hexdigits.specs.Hex.{digit_of, hex_of, value_of, byte_of, pair?, bytes_of};
@@ -10,6 +10,11 @@ ghost use Rattle.hexdigits.specs.Answers.{Reads, words_of};
 use std::alloc::{AllocError, AllocFailed, Global};
 use std::error::Error;
 use std::fmt;
+
+// How many bytes are printed at once.
+const PART_LENGTH: usize = 64;
+
+const PART_DIGITS: usize = 2 * PART_LENGTH;
 
 // Why no bytes were read.
 #[derive(Clone, Copy, PartialEq, Eq, Debug)]
@@ -91,16 +96,31 @@ pub fn to_hex(heap: Global, bytes: &[u8]) -> Result<String, AllocError>
     format!(in heap; "{}", Hex(bytes))
 }
 
-// Appends the digits of `bytes`; where memory is short, some of them. For many short texts: no formatter stands between.
+// Appends the digits of `bytes`; where memory is short, some of them. By parts, so that a byte costs no look at what room there is.
 pub fn push_hex(text: &mut Vec<u8>, bytes: &[u8]) -> Result<(), AllocError>
     ensures text { OnOk result (text.new.items ≡ text.old.items ++ hex_of bytes.now) }
     ensures front { take (length text.old.items) text.new.items ≡ text.old.items }
 {
-    for byte in bytes {
-        text.push(digit(byte / 16))?;
-        text.push(digit(byte % 16))?;
+    let mut digits = [0; PART_DIGITS];
+    let mut rest = bytes;
+    while !rest.is_empty() {
+        let (part, after) = rest.split_at(rest.len().min(PART_LENGTH));
+        put_digits(part, &mut digits);
+        text.extend_from_slice(&digits[..2 * part.len()])?;
+        rest = after;
     }
     Ok(())
+}
+
+// Writes the digits of a part in front.
+fn put_digits(part: &[u8], digits: &mut [u8; PART_DIGITS])
+    requires { length part.now ≤ 64 }
+    ensures { take (2 * length part.now) digits.new ≡ hex_of part.now }
+{
+    for (i, byte) in part.iter().enumerate() {
+        digits[2 * i] = digit(byte / 16);
+        digits[2 * i + 1] = digit(byte % 16);
+    }
 }
 
 fn all_bytes(pairs: &[[u8; 2]]) -> bool

@@ -84,7 +84,8 @@ fn perform<R: Rack, D: Driver>(panel: &mut Panel<R>, driver: &mut D, call: Call,
     driver.hear(call, result.map(|()| Outcome::Taken));
 }
 
-// A gap with this buffer, and what came of it told.
+// A gap with this buffer, and what came of it told. Not inlined, so that the loop over characters stays small.
+#[inline(never)]
 fn end<R: Rack, D: Driver>(panel: &mut Panel<R>, driver: &mut D, out: &mut [u8])
     ensures { Performed R.Rack.records panel.old panel.new D.Driver.hears driver.old driver.new out.old out.new (gap (length out.old)) }
 {

@@ -71,7 +71,8 @@ impl<R: Read + Drop, W: Write + Drop> Driver for Player<R, W> {
         }
         let paused = match next_asked(&mut self.stream, self.format) {
             Ok(Some(Event::Call(call))) => return Some(call),
-            Ok(Some(Event::Pause(pause))) => Ok(Some(pause)),
+            Ok(Some(Event::Look { channel })) => Ok(Some(Pause::Look { channel })),
+            Ok(Some(Event::SetUp { supply })) => Ok(Some(Pause::SetUp { supply })),
             Ok(None) => Ok(None),
             Err(interruption) => Err(interruption),
         };

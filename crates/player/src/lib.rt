@@ -1,4 +1,6 @@
 // Plays a recording of a panel: events in, lines out, by blocks.
+//
+// Hints on inlining are for speed alone: what each character takes stands in one loop (docs/PERFORMANCE.md).
 #![tactic(auto)]
 
 mod driving;

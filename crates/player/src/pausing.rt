@@ -5,7 +5,7 @@ ghost use Rattle.recording.specs.declared.events.Pause.TheVariants.{Look, SetUp}
 ghost use Rattle.recording.specs.Lines.{refusal_line};
 ghost use Rattle.refusals.specs.Refusals.{number_of};
 ghost use Rattle.player.specs.Outputs.{State, lines_of, lines_after};
-ghost use Rattle.player.specs.Streams.{Streams};
+ghost use Rattle.player.specs.Streams.{OfStream};
 ghost use Rattle.player.specs.Players.{Prints, AllPrinted};
 ghost use Rattle.player.specs.Playing.{Stands, Attended};
 ghost use Rattle.player.specs.declared.stream.Interruption.TheVariants.{Endless};
@@ -83,7 +83,7 @@ impl<R: Read + Drop, W: Write + Drop> Player<R, W> {
 
     // Prints the line of a refusal by which no run began, and gives the writer back.
     pub fn refuse(mut self, refusal: Refusal) -> Result<W, Interruption>
-        ensures { (events : List (List ℕ)) (rest out : List ℕ) → Streams R.Read.remaining W.Write.contents self.stream events rest out → IfOk result (λ w. W.Write.contents w ≡ Some (out ++ refusal_line (number_of refusal))) }
+        ensures { OfStream R.Read.remaining W.Write.contents self.stream (λ events rest out. IfOk result (λ w. W.Write.contents w ≡ Some (out ++ refusal_line (number_of refusal)))) }
     {
         self.stream.tell(Err(refusal))?;
         self.stream.close()

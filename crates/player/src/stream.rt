@@ -1,15 +1,15 @@
-ghost use Rattle.std.specs.Prelude.{◌≡◌, ◌≤◌, length};
+ghost use Rattle.std.specs.Prelude.{◌≡◌, ◌%◌, ◌≤◌, length};
 ghost use Rattle.std.specs.IoError.{error_kind};
 ghost use Rattle.player.specs.declared.stream.Interruption.TheVariants.{Memory, Stream};
 
-use recording::Pending;
+use recording::EVENT_LENGTH;
 use std::alloc::AllocError;
 use std::error::Error;
 use std::ops::Range;
 use std::{fmt, io};
 
-// How many bytes of a recording are read at once: 341 events.
-pub const BLOCK_LENGTH: usize = 4092;
+// How many bytes of a recording a block has room for: of whole events, so that none is cut where it ends.
+pub const BLOCK_LENGTH: usize = 5461 * EVENT_LENGTH;
 
 // Why a recording was not played to its end.
 #[derive(Clone, Copy, Debug)]
@@ -49,16 +49,17 @@ impl fmt::Display for Interruption {
 
 impl Error for Interruption {}
 
-// A recording that is read by blocks. The lines of a block's events are kept until the next block is read.
+// A recording that is read by blocks. Lines are kept until more of it is read.
 #[derive(Drop)]
 pub struct EventStream<R: Drop, W: Drop> {
     pub(crate) input: R,
     pub(crate) output: W,
     pub(crate) block: [u8; BLOCK_LENGTH],
-    // Where the bytes of the block stand that came and were not taken yet.
+    // Where the bytes of the block stand that came and were not taken yet. Events begin at multiples of their length.
     pub(crate) unread: Range<usize>,
-    pub(crate) pending: Pending,
     pub(crate) lines: Vec<u8>,
-    ghost size: { length block ≡ 4092 },
-    ghost within: { unread.end ≤ 4092 },
+    ghost size: { length block ≡ 65532 },
+    ghost aligned: { unread.start % 12 ≡ 0 },
+    ghost ordered: { unread.start ≤ unread.end },
+    ghost within: { unread.end ≤ 65532 },
 }

@@ -1,14 +1,14 @@
-ghost use Rattle.std.specs.Prelude.{◌≡◌, ℕ, false, Some, None, List, [], ◌++◌, IfOk, OnOk};
+ghost use Rattle.std.specs.Prelude.{◌≡◌, ◌<◌, ℕ, false, Some, None, List, ◌++◌, length, IfOk, OnOk};
 ghost use Rattle.std.specs.Option.{option_to_list};
 ghost use Rattle.calls.specs.Views.{result_of};
 ghost use Rattle.recording.specs.Lines.{line_of};
 ghost use Rattle.player.specs.Outputs.{rest_line};
 ghost use Rattle.recording.specs.Recordings.{events_of, rest_of};
-ghost use Rattle.player.specs.Streams.{unread_of, Streams, AtEnd, Next};
+ghost use Rattle.player.specs.Streams.{unread_of, Streams, OfStream, AtEnd, Next};
 
 use crate::stream::{BLOCK_LENGTH, EventStream, Interruption};
 use calls::Outcome;
-use recording::{EVENT_LENGTH, Pending, push_line};
+use recording::{EVENT_LENGTH, push_line};
 use refusals::Refusal;
 use std::alloc::{AllocError, Global};
 use std::io::{self, Read, Write};
@@ -23,7 +23,6 @@ impl<R: Read + Drop, W: Write + Drop> EventStream<R, W> {
             output,
             block: [0; BLOCK_LENGTH],
             unread: 0..0,
-            pending: Pending::new(),
             lines: Vec::new(heap),
         }
     }
@@ -31,72 +30,67 @@ impl<R: Read + Drop, W: Write + Drop> EventStream<R, W> {
     // The next event, if there is one more.
     #[inline(always)]
     pub fn next_event(&mut self) -> Result<Option<[u8; EVENT_LENGTH]>, Interruption>
-        ensures { (events : List (List ℕ)) (rest out : List ℕ) → Streams R.Read.remaining W.Write.contents self.old events rest out → IfOk result (λ o. Next R.Read.remaining W.Write.contents self.new events rest out o) }
+        ensures { OfStream R.Read.remaining W.Write.contents self.old (λ events rest out. IfOk result (λ o. Next R.Read.remaining W.Write.contents self.new events rest out o)) }
     {
         // Nothing says that an input ends, so the turns are counted.
         for _ in 0..u64::MAX {
-            if let Some(event) = self.event_of_block() {
+            if let Some(event) = self.whole_event() {
                 return Ok(Some(event));
             }
-            if !self.refill()? {
+            if !self.read_on()? {
                 return Ok(None);
             }
         }
         Err(Interruption::Endless)
     }
 
-    // The next event that the block completes.
+    // The bytes that came and were not taken yet.
     #[inline(always)]
-    fn event_of_block(&mut self) -> Option<[u8; EVENT_LENGTH]>
-        ensures next { (events : List (List ℕ)) (rest out : List ℕ) → Streams R.Read.remaining W.Write.contents self.old events rest out → (later : List (List ℕ)) × (events ≡ option_to_list result ++ later) × Streams R.Read.remaining W.Write.contents self.new later rest out }
-        ensures all { result ≡ None → unread_of self.new ≡ [] }
+    fn unread(&self) -> &[u8]
+        ensures { result.now ≡ unread_of self.now }
     {
-        if let Some(event) = self.whole_event() {
-            return Some(event);
-        }
-        self.cut_event()
+        &self.block[self.unread.start..self.unread.end]
     }
 
-    // The next event where it stands in the block whole, as nearly every one does: no step for each of its bytes.
+    // The next event, if all its bytes came.
     #[inline(always)]
     fn whole_event(&mut self) -> Option<[u8; EVENT_LENGTH]>
-        ensures { (events : List (List ℕ)) (rest out : List ℕ) → Streams R.Read.remaining W.Write.contents self.old events rest out → (later : List (List ℕ)) × (events ≡ option_to_list result ++ later) × Streams R.Read.remaining W.Write.contents self.new later rest out }
+        ensures next { OfStream R.Read.remaining W.Write.contents self.old (λ events rest out. (later : List (List ℕ)) × (events ≡ option_to_list result ++ later) × Streams R.Read.remaining W.Write.contents self.new later rest out) }
+        ensures short { result ≡ None → length (unread_of self.new) < 12 }
     {
-        if !self.pending.is_empty() {
-            return None;
-        }
-        let unread = self.block.get(self.unread.start..self.unread.end)?;
-        let event = *unread.first_chunk()?;
+        let event = *self.unread().first_chunk()?;
         self.unread.start += EVENT_LENGTH;
         Some(event)
     }
 
-    // The next event, byte by byte: where the block ends before it, its first bytes are pending then.
-    fn cut_event(&mut self) -> Option<[u8; EVENT_LENGTH]>
-        ensures next { (events : List (List ℕ)) (rest out : List ℕ) → Streams R.Read.remaining W.Write.contents self.old events rest out → (later : List (List ℕ)) × (events ≡ option_to_list result ++ later) × Streams R.Read.remaining W.Write.contents self.new later rest out }
-        ensures all { result ≡ None → unread_of self.new ≡ [] }
-    {
-        while let Some(at) = self.unread.next() {
-            if let Some(event) = self.pending.push(self.block[at]) {
-                return Some(event);
-            }
-        }
-        None
-    }
-
-    // Writes the lines out and reads the next block: whether one came.
-    fn refill(&mut self) -> Result<bool, Interruption>
-        ensures { unread_of self.old ≡ [] → (events : List (List ℕ)) (rest out : List ℕ) → Streams R.Read.remaining W.Write.contents self.old events rest out → IfOk result (λ more. Streams R.Read.remaining W.Write.contents self.new events rest out × (more ≡ false → AtEnd R.Read.remaining W.Write.contents self.new events rest)) }
+    // Writes the lines out and reads on, where no whole event is left: whether bytes came. Seldom, and so not inlined.
+    #[inline(never)]
+    fn read_on(&mut self) -> Result<bool, Interruption>
+        ensures { length (unread_of self.old) < 12 → OfStream R.Read.remaining W.Write.contents self.old (λ events rest out. IfOk result (λ more. Streams R.Read.remaining W.Write.contents self.new events rest out × (more ≡ false → AtEnd R.Read.remaining W.Write.contents self.new events rest))) }
     {
         self.write_out()?;
-        let came = self.input.read(&mut self.block)?;
-        self.unread = 0..came;
+        self.make_room();
+        let came = self.input.read(&mut self.block[self.unread.end..])?;
+        self.unread.end += came;
         Ok(came > 0)
+    }
+
+    // Begins the block anew where it is full: no event is cut at its end, so that all of it was taken.
+    fn make_room(&mut self)
+        ensures unread { length (unread_of self.old) < 12 → unread_of self.new ≡ unread_of self.old }
+        ensures room { self.new.unread.end < 65532 }
+        ensures input { self.new.input ≡ self.old.input }
+        ensures output { self.new.output ≡ self.old.output }
+        ensures lines { self.new.lines ≡ self.old.lines }
+    {
+        if self.unread.end == BLOCK_LENGTH {
+            self.unread = 0..0;
+        }
     }
 
     // Writes the lines out.
     fn write_out(&mut self) -> io::Result<()>
-        ensures written { (events : List (List ℕ)) (rest out : List ℕ) → Streams R.Read.remaining W.Write.contents self.old events rest out → OnOk result (Streams R.Read.remaining W.Write.contents self.new events rest out × (W.Write.contents self.new.output ≡ Some out)) }
+        ensures written { OfStream R.Read.remaining W.Write.contents self.old (λ events rest out. OnOk result (Streams R.Read.remaining W.Write.contents self.new events rest out × (W.Write.contents self.new.output ≡ Some out))) }
         ensures unread { unread_of self.new ≡ unread_of self.old }
     {
         self.output.write_all(self.lines.as_slice())?;
@@ -108,31 +102,31 @@ impl<R: Read + Drop, W: Write + Drop> EventStream<R, W> {
     // The line of what came of an event, if it has one.
     #[inline(always)]
     pub fn tell(&mut self, outcome: Result<Outcome<'_>, Refusal>) -> Result<(), AllocError>
-        ensures { (events : List (List ℕ)) (rest out : List ℕ) → Streams R.Read.remaining W.Write.contents self.old events rest out → OnOk result (Streams R.Read.remaining W.Write.contents self.new events rest (out ++ line_of (result_of outcome.entry))) }
+        ensures { OfStream R.Read.remaining W.Write.contents self.old (λ events rest out. OnOk result (Streams R.Read.remaining W.Write.contents self.new events rest (out ++ line_of (result_of outcome.entry)))) }
     {
         push_line(&mut self.lines, outcome)
     }
 
     // A line of another kind.
     pub fn print(&mut self, line: &[u8]) -> Result<(), AllocError>
-        ensures { (events : List (List ℕ)) (rest out : List ℕ) → Streams R.Read.remaining W.Write.contents self.old events rest out → OnOk result (Streams R.Read.remaining W.Write.contents self.new events rest (out ++ line.now)) }
+        ensures { OfStream R.Read.remaining W.Write.contents self.old (λ events rest out. OnOk result (Streams R.Read.remaining W.Write.contents self.new events rest (out ++ line.now))) }
     {
         self.lines.extend_from_slice(line)
     }
 
     // Writes out what waits, and gives the writer back.
     pub fn close(mut self) -> Result<W, Interruption>
-        ensures { (events : List (List ℕ)) (rest out : List ℕ) → Streams R.Read.remaining W.Write.contents self events rest out → IfOk result (λ w. W.Write.contents w ≡ Some out) }
+        ensures { OfStream R.Read.remaining W.Write.contents self (λ events rest out. IfOk result (λ w. W.Write.contents w ≡ Some out)) }
     {
         self.write_out()?;
         Ok(self.output)
     }
 
-    // Closes a stream that is at its end: what is pending then counts as a file of a wrong length.
+    // Closes a stream that is at its end: what is left of an event then counts as a file of a wrong length.
     pub fn finish(mut self) -> Result<W, Interruption>
-        ensures { (events : List (List ℕ)) (rest out : List ℕ) → Streams R.Read.remaining W.Write.contents self events rest out → AtEnd R.Read.remaining W.Write.contents self events rest → IfOk result (λ w. W.Write.contents w ≡ Some (out ++ rest_line rest)) }
+        ensures { OfStream R.Read.remaining W.Write.contents self (λ events rest out. AtEnd R.Read.remaining W.Write.contents self events rest → IfOk result (λ w. W.Write.contents w ≡ Some (out ++ rest_line rest))) }
     {
-        if !self.pending.is_empty() {
+        if !self.unread().is_empty() {
             self.tell(Err(Refusal::NumberOfRecords))?;
         }
         self.close()

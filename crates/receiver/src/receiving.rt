@@ -34,18 +34,18 @@ impl Receiver {
     fn keep(&mut self, byte: u8, marks: u8)
         ensures { held self.new ≡ pushed (held self.old) (record { byte = byte; marks = marks }) }
     {
-        if self.len == Some(0) && byte == PREAMBLE {
-            self.preambles = (self.preambles + 1).min(LEAST_PREAMBLES);
-            return;
+        match &mut self.len {
+            Some(0) if byte == PREAMBLE => {
+                self.preambles = (self.preambles + 1).min(LEAST_PREAMBLES);
+                return;
+            }
+            Some(len) if *len < MOST_SPAN => {
+                self.bytes[*len] = byte;
+                *len += 1;
+            }
+            _ => self.len = None,
         }
         self.marks |= marks;
-        self.len = match self.len {
-            Some(len) if len < MOST_SPAN => {
-                self.bytes[len] = byte;
-                Some(len + 1)
-            }
-            _ => None,
-        };
     }
 
     // What was received, unless it is too long to be whole.

@@ -1,4 +1,4 @@
-ghost use Rattle.std.specs.Prelude.{◌≡◌, is_ok, IfErr, if◌then◌else◌, OnOk};
+ghost use Rattle.std.specs.Prelude.{◌≡◌, length, is_ok, IfErr, if◌then◌else◌, OnOk};
 ghost use Rattle.std.specs.Result.{result_err};
 ghost use Rattle.record.specs.Faults.{fault_of, FirstFault};
 ghost use Rattle.record.specs.Inverse.{EncodesAgain};
@@ -26,7 +26,7 @@ pub fn record_at(bytes: &[u8; RECORD_LENGTH]) -> Record
     ensures { result ≡ decoded bytes.now }
 {
     let mut text = [0; TEXT_LENGTH];
-    text.copy_from_slice(&bytes[TEXT_AT..RESERVED_AT]);
+    text.copy_from_slice(text_of(bytes));
     Record {
         fields: fields_at(bytes),
         reading: Reading {
@@ -35,6 +35,14 @@ pub fn record_at(bytes: &[u8; RECORD_LENGTH]) -> Record
         },
         text,
     }
+}
+
+// The text bytes of a record in its 80 bytes, where they stand: whoever asks for one of them copies none.
+pub fn text_of(bytes: &[u8; RECORD_LENGTH]) -> &[u8]
+    ensures value { result.now ≡ (decoded bytes.now).text }
+    ensures length { length result.now ≡ 45 }
+{
+    &bytes[TEXT_AT..RESERVED_AT]
 }
 
 fn fields_at(bytes: &[u8; RECORD_LENGTH]) -> Fields

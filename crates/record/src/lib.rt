@@ -13,7 +13,7 @@ mod layout;
 mod readings;
 
 pub use bytes::u24_to_be_bytes;
-pub use decoder::{decode, record_at};
+pub use decoder::{decode, record_at, text_of};
 pub use encoder::encode;
 pub use faults::{RecordFault, check};
 use layout::MAX_CEILING;

@@ -11,7 +11,7 @@ use Rattle.runs.specs.Traces as traces
 use Rattle.calls.specs.Views.{call_of}
 use Rattle.calls.specs.declared.Call as code
 use Rattle.recording.specs.declared.events.Event.{Event}
-use Rattle.recording.specs.declared.events.Event.TheVariants.{Call, Pause as PauseEvent}
+use Rattle.recording.specs.declared.events.Event.TheVariants.{Call, Look as LookEvent, SetUp as SetUpEvent}
 use Rattle.recording.specs.declared.events.Format.{Format}
 use Rattle.recording.specs.declared.events.Format.TheVariants.{Linerun, Supplyrun}
 use Rattle.recording.specs.declared.events.Pause.{Pause}
@@ -44,10 +44,6 @@ pub data Asked : Type 0 where
   calls : traces.Call channel → Asked
   pauses : Pause → Asked
 
-abbrev pub called : Result (traces.Call channel) ℕ → Result Asked ℕ
-called (Ok call) = Ok (calls call)
-called (Err number) = Err number
-
 -- By byte 0: 5 a gap of some room; 6 a look at a channel; 7 a set-up under the supply in bytes 4 to 7.
 abbrev pub own_asks : List ℕ → Result Asked ℕ
 own_asks event =
@@ -56,15 +52,21 @@ own_asks event =
     (cond (slice_index event 0 == 7) (in_form (zeros? (between 1 4 event) && zeros? (between 8 12 event)) (pauses (SetUp (number32 event 4))))
     (Err 110)))
 
+-- a call, or what is asked where it is none
+abbrev pub or_else : Result (traces.Call channel) ℕ → Result Asked ℕ → Result Asked ℕ
+or_else (Ok call) other = Ok (calls call)
+or_else (Err number) other = other
+
 -- Recordings of supplyrun have these three kinds besides.
 abbrev pub event_asks : Format → List ℕ → Result Asked ℕ
-event_asks Linerun event = called (event_call event)
-event_asks Supplyrun event = cond (nat_le 5 (slice_index event 0) && nat_le (slice_index event 0) 7) (own_asks event) (called (event_call event))
+event_asks Linerun event = or_else (event_call event) (Err 110)
+event_asks Supplyrun event = or_else (event_call event) (own_asks event)
 
 -- what the decoder answers
 abbrev pub asked_of : Event → Asked
 asked_of (Call c) = calls (call_of c)
-asked_of (PauseEvent p) = pauses p
+asked_of (LookEvent channel) = pauses (Look channel)
+asked_of (SetUpEvent supply) = pauses (SetUp supply)
 
 abbrev pub asked_by : Result Event Refusal → Result Asked ℕ
 asked_by (Ok e) = Ok (asked_of e)

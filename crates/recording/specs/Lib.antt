@@ -1,4 +1,3 @@
 pub mod Events
 pub mod Lines
 pub mod Recordings
-pub mod Collecting

@@ -1,5 +1,5 @@
 -- A recording: events of 12 bytes, one after another; fewer than 12 bytes may be left at its end.
-use Rattle.std.specs.Prelude.{◌≡◌, ℕ, zero, suc, ◌*◌, ◌/◌, List, [], ◌∷◌, ◌++◌, length, take, drop}
+use Rattle.std.specs.Prelude.{ℕ, zero, suc, ◌*◌, ◌/◌, List, [], ◌∷◌, length, take, drop}
 
 abbrev pub first_events : ℕ → List ℕ → List (List ℕ)
 first_events zero bytes = []
@@ -12,7 +12,3 @@ events_of bytes = first_events (length bytes / 12) bytes
 -- the bytes of the last, incomplete one
 abbrev pub rest_of : List ℕ → List ℕ
 rest_of bytes = drop (length bytes / 12 * 12) bytes
-
--- Cut in two at any place, a recording has the events of its first part, and then those of what that leaves with the second part.
-abbrev pub CutAnywhere : Type 0
-CutAnywhere = (a b : List ℕ) → (events_of (a ++ b) ≡ events_of a ++ events_of (rest_of a ++ b)) × (rest_of (a ++ b) ≡ rest_of (rest_of a ++ b))

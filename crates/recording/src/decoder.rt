@@ -1,4 +1,6 @@
 ghost use Rattle.std.specs.Prelude.{◌≡◌};
+ghost use Rattle.std.specs.Int.{from_be_bytes, w64};
+ghost use Rattle.std.specs.List.{between};
 ghost use Rattle.recording.specs.Events.{viewed, event_call};
 
 use calls::Call;
@@ -22,21 +24,31 @@ pub const EVENT_LENGTH: usize = 12;
 pub fn decode_event(event: &[u8; EVENT_LENGTH]) -> Result<Call, Refusal>
     ensures { viewed result ≡ event_call event.now }
 {
-    match *event {
-        [1, byte, marks, 0, 0, 0, 0, 0, 0, 0, 0, 0] => Ok(Call::Character { byte, marks }),
+    let [kind, first, second, third, ..] = *event;
+    match (kind, first, second, third, last_eight(event)) {
+        (1, byte, marks, 0, 0) => Ok(Call::Character { byte, marks }),
         // A recorded gap has room for any answer.
-        [2, 0, 0, 0, 0, 0, 0, 0, 0, 0, 0, 0] => Ok(Call::Gap { room: MOST_ANSWER }),
-        [3, channel, 0, 0, f0, f1, f2, f3, t0, t1, t2, t3] => Ok(Call::Sample {
+        (2, 0, 0, 0, 0) => Ok(Call::Gap { room: MOST_ANSWER }),
+        (3, channel, 0, 0, patterns) => Ok(Call::Sample {
             channel,
             reading: Reading {
-                flow: value_of(u32::from_be_bytes([f0, f1, f2, f3])),
-                temperature: value_of(u32::from_be_bytes([t0, t1, t2, t3])),
+                flow: value_of((patterns >> 32) as u32),
+                temperature: value_of((patterns % (1 << 32)) as u32),
             },
         }),
-        [4, channel, open @ 0..=1, 0, 0, 0, 0, 0, 0, 0, 0, 0] => Ok(Call::Key {
+        (4, channel, open @ 0..=1, 0, 0) => Ok(Call::Key {
             channel,
             open: open == 1,
         }),
         _ => Err(Refusal::OutOfForm),
     }
+}
+
+// Bytes 4 to 11 as one number: whether all are 0 is seen at once.
+#[inline(always)]
+pub(crate) fn last_eight(event: &[u8; EVENT_LENGTH]) -> u64
+    ensures { result ≡ from_be_bytes w64 (between 4 12 event.now) }
+{
+    let [_, _, _, _, a, b, c, d, e, f, g, h] = *event;
+    u64::from_be_bytes([a, b, c, d, e, f, g, h])
 }

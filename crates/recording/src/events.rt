@@ -1,7 +1,7 @@
 ghost use Rattle.std.specs.Prelude.{◌≡◌};
-ghost use Rattle.recording.specs.Events.{event_call, called, asked_by, own_asks, event_asks};
+ghost use Rattle.recording.specs.Events.{asked_by, own_asks, event_asks};
 
-use crate::decoder::{EVENT_LENGTH, decode_event};
+use crate::decoder::{EVENT_LENGTH, decode_event, last_eight};
 use calls::Call;
 use refusals::Refusal;
 
@@ -14,11 +14,13 @@ pub enum Format {
     Supplyrun,
 }
 
-// What an event asks for.
+// What an event asks for: a call, or one of the pauses, which stand here by themselves. A `Pause` in one case would lie over the
+// first bytes of a call, and each call would be put together and taken apart again.
 #[derive(Clone, Copy)]
 pub enum Event {
     Call(Call),
-    Pause(Pause),
+    Look { channel: u8 },
+    SetUp { supply: u32 },
 }
 
 // What is done with a panel between the calls of a run.
@@ -44,35 +46,27 @@ impl Format {
     pub fn decode(self, event: &[u8; EVENT_LENGTH]) -> Result<Event, Refusal>
         ensures { asked_by result ≡ event_asks self event.now }
     {
-        match self {
-            Format::Linerun => decode_call(event),
-            Format::Supplyrun => match event[0] {
-                5..=7 => decode_own(event),
-                _ => decode_call(event),
-            },
+        match (decode_event(event), self) {
+            (Ok(call), _) => Ok(Event::Call(call)),
+            (Err(_), Format::Supplyrun) => decode_own(event),
+            (Err(_), Format::Linerun) => Err(Refusal::OutOfForm),
         }
     }
-}
-
-#[inline(always)]
-fn decode_call(event: &[u8; EVENT_LENGTH]) -> Result<Event, Refusal>
-    ensures { asked_by result ≡ called (event_call event.now) }
-{
-    Ok(Event::Call(decode_event(event)?))
 }
 
 // What an event of one of the three kinds asks for that supplyrun has besides.
 fn decode_own(event: &[u8; EVENT_LENGTH]) -> Result<Event, Refusal>
     ensures { asked_by result ≡ own_asks event.now }
 {
-    match *event {
-        [5, room, 0, 0, 0, 0, 0, 0, 0, 0, 0, 0] => Ok(Event::Call(Call::Gap {
+    let [kind, first, second, third, ..] = *event;
+    match (kind, first, second, third, last_eight(event)) {
+        (5, room, 0, 0, 0) => Ok(Event::Call(Call::Gap {
             room: usize::from(room),
         })),
-        [6, channel, 0, 0, 0, 0, 0, 0, 0, 0, 0, 0] => Ok(Event::Pause(Pause::Look { channel })),
-        [7, 0, 0, 0, s0, s1, s2, s3, 0, 0, 0, 0] => Ok(Event::Pause(Pause::SetUp {
-            supply: u32::from_be_bytes([s0, s1, s2, s3]),
-        })),
+        (6, channel, 0, 0, 0) => Ok(Event::Look { channel }),
+        (7, 0, 0, 0, supply) if supply % (1 << 32) == 0 => Ok(Event::SetUp {
+            supply: (supply >> 32) as u32,
+        }),
         _ => Err(Refusal::OutOfForm),
     }
 }

@@ -1,16 +1,15 @@
 // Recordings of a panel: calls from the bytes of events, and lines of text from outcomes.
+//
+// Hints on inlining are for speed alone, as in the player.
 #![tactic(auto)]
 
-mod collector;
 mod decoder;
 mod events;
-mod pending;
 mod printer;
 
 pub use decoder::{EVENT_LENGTH, decode_event};
 pub use events::{Event, Format, Pause};
-pub use pending::Pending;
-pub use printer::{push_line, push_refusal};
+pub use printer::push_line;
 
 #[cfg(test)]
 mod tests {
@@ -68,7 +67,7 @@ mod tests {
     #[test]
     fn refusal_line(rt: HostRuntime) -> Result<(), Fail> {
         let mut lines = Vec::new(rt.alloc());
-        push_refusal(&mut lines, Refusal::OutOfForm)?;
+        push_line(&mut lines, Err(Refusal::OutOfForm))?;
         assert_eq!(rt; lines.as_slice(), b"refused 110\n".as_slice());
         Ok(())
     }

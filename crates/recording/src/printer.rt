@@ -1,18 +1,16 @@
-ghost use Rattle.std.specs.Prelude.{◌≡◌, ◌++◌, decimal, is_ok, IfOk, OnOk, if◌then◌else◌};
+ghost use Rattle.std.specs.Prelude.{◌≡◌, ◌++◌, take, length, decimal, is_ok, OnOk, if◌then◌else◌};
 ghost use Rattle.refusals.specs.Refusals.{number_of};
 ghost use Rattle.calls.specs.Views.{result_of};
 ghost use Rattle.recording.specs.Lines.{refusal_line, answer_line, line_of};
 
 use calls::Outcome;
 use hexdigits::push_hex;
-use line::MOST_ANSWER;
 use refusals::Refusal;
-use std::alloc::{AllocError, Global};
-
-// Of an answer: a channel, a space, the digits, a line feed.
-const LONGEST_LINE: usize = 3 + 1 + 2 * MOST_ANSWER + 1;
+use std::alloc::AllocError;
 
 // Appends the line of an outcome, or changes nothing where memory is short.
+//
+// Digit by digit, and no `Display`: a formatter would cost more than all else that comes of a gap.
 #[inline(always)]
 pub fn push_line(
     lines: &mut Vec<u8>,
@@ -20,55 +18,55 @@ pub fn push_line(
 ) -> Result<(), AllocError>
     ensures { lines.new.items ≡ (if is_ok result then lines.old.items ++ line_of (result_of outcome.entry) else lines.old.items) }
 {
-    let heap = *lines.allocator();
-    let line = match outcome {
+    let start = lines.len();
+    let pushed = match outcome {
         // Most calls have no line.
         Ok(Outcome::Taken) => return Ok(()),
         Ok(Outcome::Silent) => return lines.extend_from_slice(b"silent\n"),
-        Ok(Outcome::Answered { channel, bytes }) => answer_line(heap, channel, bytes)?,
-        Err(refusal) => refusal_line(heap, refusal)?,
+        Ok(Outcome::Answered { channel, bytes }) => push_answer(lines, channel, bytes),
+        Err(refusal) => push_refusal(lines, refusal),
     };
-    lines.extend_from_slice(line.as_slice())
-}
-
-// The same for a refusal that no call gave, as of an event out of form or of a file.
-pub fn push_refusal(lines: &mut Vec<u8>, refusal: Refusal) -> Result<(), AllocError>
-    ensures { lines.new.items ≡ (if is_ok result then lines.old.items ++ refusal_line (number_of refusal) else lines.old.items) }
-{
-    push_line(lines, Err(refusal))
-}
-
-// The line of an answer, digit by digit: a formatter would cost more than all else that comes of a gap.
-fn answer_line(heap: Global, channel: u8, bytes: &[u8]) -> Result<Vec<u8>, AllocError>
-    ensures { IfOk result (λ line. line.items ≡ answer_line channel bytes.now) }
-{
-    let mut line = Vec::new(heap);
-    line.reserve(LONGEST_LINE)?;
-    push_number(&mut line, channel)?;
-    line.push(b' ')?;
-    push_hex(&mut line, bytes)?;
-    line.push(b'\n')?;
-    Ok(line)
-}
-
-fn refusal_line(heap: Global, refusal: Refusal) -> Result<Vec<u8>, AllocError>
-    ensures { IfOk result (λ line. line.items ≡ refusal_line (number_of refusal)) }
-{
-    let mut line = Vec::new(heap);
-    line.extend_from_slice(b"refused ")?;
-    push_number(&mut line, refusal.number())?;
-    line.push(b'\n')?;
-    Ok(line)
-}
-
-// Appends a number in decimal.
-fn push_number(line: &mut Vec<u8>, number: u8) -> Result<(), AllocError>
-    ensures { OnOk result (line.new.items ≡ line.old.items ++ decimal number) }
-{
-    if number < 10 {
-        line.push(b'0' + number)?;
-        return Ok(());
+    if pushed.is_err() {
+        // No part of a line stays.
+        lines.truncate(start);
     }
-    let digits = number.to_string(*line.allocator())?;
-    line.extend_from_slice(digits.as_str().as_bytes())
+    pushed
+}
+
+// Appends the line of an answer, or a part of it.
+fn push_answer(lines: &mut Vec<u8>, channel: u8, bytes: &[u8]) -> Result<(), AllocError>
+    ensures line { OnOk result (lines.new.items ≡ lines.old.items ++ answer_line channel bytes.now) }
+    ensures front { take (length lines.old.items) lines.new.items ≡ lines.old.items }
+{
+    push_number(lines, channel)?;
+    lines.push(b' ')?;
+    push_hex(lines, bytes)?;
+    lines.push(b'\n')?;
+    Ok(())
+}
+
+// The same of a refusal.
+fn push_refusal(lines: &mut Vec<u8>, refusal: Refusal) -> Result<(), AllocError>
+    ensures line { OnOk result (lines.new.items ≡ lines.old.items ++ refusal_line (number_of refusal)) }
+    ensures front { take (length lines.old.items) lines.new.items ≡ lines.old.items }
+{
+    lines.extend_from_slice(b"refused ")?;
+    push_number(lines, refusal.number())?;
+    lines.push(b'\n')?;
+    Ok(())
+}
+
+// Appends a number in decimal, or a part of it.
+fn push_number(line: &mut Vec<u8>, number: u8) -> Result<(), AllocError>
+    ensures line { OnOk result (line.new.items ≡ line.old.items ++ decimal number) }
+    ensures front { take (length line.old.items) line.new.items ≡ line.old.items }
+{
+    if number >= 100 {
+        line.push(b'0' + number / 100)?;
+    }
+    if number >= 10 {
+        line.push(b'0' + number / 10 % 10)?;
+    }
+    line.push(b'0' + number % 10)?;
+    Ok(())
 }

@@ -9,7 +9,7 @@ ghost use Rattle.shelf.specs.Rows.{records_in};
 
 use crate::shelf::Shelf;
 use rack::{Change, Rack, RackRefusal, apply};
-use record::{Fields, RECORD_LENGTH, Reading, encode, record_at};
+use record::{Fields, RECORD_LENGTH, Reading, encode, record_at, text_of};
 use refusals::Refusal;
 
 impl Shelf {
@@ -42,8 +42,8 @@ impl Rack for Shelf {
     }
 
     fn text_byte(&self, channel: u8, place: u8) -> Result<u8, RackRefusal> {
-        let record = record_at(self.row(channel)?);
-        Ok(*record.text.get(place as usize).ok_or(Refusal::OutOfForm)?)
+        let text = text_of(self.row(channel)?);
+        Ok(*text.get(place as usize).ok_or(Refusal::OutOfForm)?)
     }
 
     fn write(&mut self, channel: u8, change: Change<'_>) -> Result<(), RackRefusal> {

@@ -1,36 +1,23 @@
-use Rattle.std.proofs.Common.{◌≡◌, ℕ, List, [], ◌∷◌, ◌++◌, length, take, sym, ap, ◌∙◌, append-nil, append_assoc, arith}
-use Rattle.std.proofs.Math.Seq.{take-append_seam}
-use Rattle.std.proofs.lemmas.List.{take_all}
+use Rattle.std.proofs.Common.{◌≡◌, ℕ, List, ◌++◌, length, take, sym, ap, ◌∙◌, append_assoc, arith}
+use Rattle.std.proofs.lemmas.List.{length-take, take-append-le, take-append-drop}
 use Rattle.hexdigits.specs.Hex.{hex_of}
-use Rattle.hexdigits.proofs.Reading.{hex_pushed}
+use Rattle.hexdigits.proofs.Reading.{hex_parts}
 use Rattle.hexdigits.proofs.push_hex.Goals as goal
 
--- what stood there stands in front
-kept : (front back text : List ℕ) → text ≡ front ++ back → take (length front) text ≡ front
-kept front back text e = ap (take (length front)) e ∙ take-append_seam front back
+-- a part more: its digits stand behind the text, before those of the rest
+more : (text front back rest all : List ℕ) → front ++ back ≡ rest → text ++ hex_of rest ≡ all → (text ++ hex_of front) ++ hex_of back ≡ all
+more text front back rest all e inv = append_assoc text (hex_of front) (hex_of back) ∙ (ap (λ l. text ++ l) (sym (hex_parts front back) ∙ ap hex_of e) ∙ inv)
 
-pub loop-byte-init : goal.loop-byte-init
-loop-byte-init c = sym (append-nil c.args.text.now.items)
+-- what stood there first stands in front still
+kept : (old text part : List ℕ) → take (length old) text ≡ old → take (length old) (text ++ part) ≡ old
+kept old text part e = take-append-le (length old) text part (omega (arith, length-take (length old) text, ap length e)) ∙ e
 
-pub returns-in_err-push-clause-front : goal.returns-in_err-push-clause-front
-returns-in_err-push-clause-front c = kept _ _ _ (c.in_err-push.ensures.items ∙ c.loop-byte.invariant)
-
-pub returns-in_err-push-2-clause-front : goal.returns-in_err-push-2-clause-front
-returns-in_err-push-2-clause-front c =
-    let old : List ℕ = c.args.text.now.items in
-    let before : List ℕ = hex_of (take c.loop-byte.byte-index c.args.bytes.now) in
-    let high : List ℕ = c.digit.result ∷ [] in
-    kept old (before ++ high) _ (c.in_err-push-2.ensures.items ∙ (c.in_ok-push.ensures.items ∙ (ap (λ (l : List ℕ). l ++ high) c.loop-byte.invariant ∙ append_assoc old before high)))
-
-pub loop-byte-preserved : goal.loop-byte-preserved
-loop-byte-preserved c =
-    let old = c.args.text.now.items in
-    let before = hex_of (take c.loop-byte.byte-index c.args.bytes.now) in
-    c.in_ok-push-2.ensures.items ∙ (ap (λ l. l ++ (c.digit-in-loop-byte.result ∷ [])) (c.in_ok-push.ensures.items ∙ ap (λ l. l ++ (c.digit.result ∷ [])) c.loop-byte.invariant)
-    ∙ hex_pushed old c.loop-byte.byte-index c.args.bytes.now c.digit.result c.digit-in-loop-byte.result c.loop-byte-test.true c.digit.ensures c.digit-in-loop-byte.ensures)
-
-pub returns-clause-text : goal.returns-clause-text
-returns-clause-text c = c.loop-byte.invariant ∙ ap (λ l. c.args.text.now.items ++ hex_of l) (take_all c.loop-byte.byte-index c.args.bytes.now (omega arith))
-
-pub returns-clause-front : goal.returns-clause-front
-returns-clause-front c = kept _ _ _ c.loop-byte.invariant
+pub loop-rest-preserved : goal.loop-rest-preserved
+loop-rest-preserved c =
+    let text = c.loop-rest.text.items in
+    let rest = c.loop-rest.rest.now in
+    let front = c.split_at.result.0.now in
+    let back = c.split_at.result.1.now in
+    let whole : front ++ back ≡ rest = ap (λ l. l ++ back) c.split_at.ensures.front ∙ (ap (λ l. take c.min.result rest ++ l) c.split_at.ensures.back ∙ take-append-drop c.min.result rest) in
+    let after = c.in_ok-extend_from_slice.ensures.items ∙ ap (λ l. text ++ l) c.put_digits.ensures in
+    rw after (more text front back rest _ whole c.loop-rest.invariant.0, kept c.args.text.now.items text (hex_of front) c.loop-rest.invariant.1)
