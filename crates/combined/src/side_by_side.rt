@@ -5,12 +5,12 @@ ghost use Rattle.rack.specs.Refusals.{numbered};
 ghost use Rattle.std.proofs.ByRecursion.{All-append};
 ghost use Rattle.record.specs.Lawful.{Lawful};
 
-use rack::{Change, MOST_CHANNELS, Rack, RackRefusal};
+use rack::{Change, MAX_CHANNELS, Rack, RackRefusal};
 use record::{Fields, Reading};
 use refusals::Refusal;
 
 // The number of records that is told for all above the most channels.
-const MANY: u8 = MOST_CHANNELS + 1;
+const MANY: u8 = MAX_CHANNELS + 1;
 
 // Two racks side by side, whatever each is made of: the left one's channels first.
 #[derive(Drop)]
@@ -21,7 +21,7 @@ pub struct SideBySide<L, R> {
 
 // A channel of one of the two.
 #[derive(Clone, Copy)]
-pub enum Side {
+pub(crate) enum Side {
     Left(u8),
     Right(u8),
 }
@@ -34,7 +34,7 @@ impl<L: Rack, R: Rack> SideBySide<L, R> {
         ensures absent { OnErr result (channel_of (L.Rack.records self.now.left ++ R.Rack.records self.now.right) channel ≡ None) }
     {
         let left = self.left.count();
-        if channel >= MOST_CHANNELS {
+        if channel >= MAX_CHANNELS {
             Err(Refusal::NoChannel.into())
         } else if channel < left {
             Ok(Side::Left(channel))

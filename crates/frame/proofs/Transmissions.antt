@@ -148,6 +148,3 @@ length_sent short long q = simp (length-append, length-replicate) (omega arith)
 -- both of a request
 pub transmits : (q : Request) → request? q ≡ true → Transmits q (transmission q)
 transmits q h = request_sent q (transmission q) (sends 2 130 q h)
-
-pub length_transmission : (q : Request) → length (transmission q) ≡ q.preambles + length q.address + length q.«data» + 4
-length_transmission q = length_sent 2 130 q

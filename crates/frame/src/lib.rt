@@ -52,7 +52,7 @@ impl<'a> Address<'a> {
         }
     }
 
-    // The master that the first byte tells.
+    // The master that the first byte tells; the secondary one where there is no byte.
     pub fn master(self) -> Master
         ensures { master_bit result ≡ slice_index (address_bytes self.entry) 0 / 128 }
     {
@@ -120,12 +120,12 @@ const REPLY: StartBytes = StartBytes {
 pub const PREAMBLE: u8 = 0xFF;
 
 // The preambles without which no transmission is heard, and the most that are sent.
-pub const LEAST_PREAMBLES: usize = 2;
+pub const MIN_PREAMBLES: usize = 2;
 
-const MOST_PREAMBLES: usize = 20;
+const MAX_PREAMBLES: usize = 20;
 
 // The most data bytes that a count can tell.
-const MOST_DATA: usize = 255;
+const MAX_DATA: usize = 255;
 
 #[cfg(test)]
 mod tests {

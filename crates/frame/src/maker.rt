@@ -7,7 +7,7 @@ ghost use Rattle.frame.specs.Transmissions.{Sent, Replies};
 ghost use Rattle.frame.specs.Views.{address_bytes, request_parts};
 
 use crate::{
-    LEAST_PREAMBLES, MOST_DATA, MOST_PREAMBLES, PREAMBLE, REPLY, REQUEST, StartBytes, Transmission,
+    MAX_DATA, MAX_PREAMBLES, MIN_PREAMBLES, PREAMBLE, REPLY, REQUEST, StartBytes, Transmission,
     check,
 };
 use refusals::Refusal;
@@ -41,13 +41,13 @@ fn make(kind: StartBytes, parts: Transmission<'_>, out: &mut [u8]) -> Result<usi
         _ => return Err(Refusal::OutOfForm),
     };
     let preambles = parts.preambles;
-    if preambles < LEAST_PREAMBLES || preambles > MOST_PREAMBLES || parts.data.len() > MOST_DATA {
+    if preambles < MIN_PREAMBLES || preambles > MAX_PREAMBLES || parts.data.len() > MAX_DATA {
         return Err(Refusal::OutOfForm);
     }
     if out.len() < preambles + address.len() + parts.data.len() + 4 {
         return Err(Refusal::ShortBuffer);
     }
-    let end = put(out, 0, &[PREAMBLE; MOST_PREAMBLES][0..preambles]);
+    let end = put(out, 0, &[PREAMBLE; MAX_PREAMBLES][0..preambles]);
     Ok(put_frame(out, end, start, parts))
 }
 

@@ -5,7 +5,7 @@ ghost use Rattle.frame.specs.Transmissions.{Request, Transmits, preambles_of, re
 ghost use Rattle.frame.specs.Views.{address_bytes, Fitting, frame_parts, request_parts, viewed};
 
 use crate::{
-    Address, Frame, LEAST_PREAMBLES, LONG_REQUEST, PREAMBLE, SHORT_REQUEST, Transmission, check,
+    Address, Frame, LONG_REQUEST, MIN_PREAMBLES, PREAMBLE, SHORT_REQUEST, Transmission, check,
 };
 use refusals::Refusal;
 
@@ -18,7 +18,7 @@ pub fn read_request(bytes: &[u8]) -> Result<Transmission<'_>, Refusal>
 {
     let preambles = count_preambles(bytes);
     let span = &bytes[preambles..];
-    if preambles < LEAST_PREAMBLES || check(span) != 0 {
+    if preambles < MIN_PREAMBLES || check(span) != 0 {
         return Err(Refusal::OutOfForm);
     }
     let frame = read_frame(span)?;

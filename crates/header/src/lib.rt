@@ -5,7 +5,7 @@ ghost use Rattle.std.specs.Prelude.{◌≡◌, ◌≤◌};
 ghost use Rattle.refusals.specs.Refusals.{numbered};
 ghost use Rattle.header.specs.Shares.{share_at, rack_share, capacity_of, fits?};
 
-use rack::{MOST_CHANNELS, Rack};
+use rack::{MAX_CHANNELS, Rack};
 use refusals::Refusal;
 
 // The load of 100 percent: a supply is weighed on the scale of the loads.
@@ -16,7 +16,7 @@ pub fn total_share<R: Rack>(rack: &R) -> Result<u64, Refusal>
     ensures { numbered result ≡ rack_share (R.Rack.records rack.now) }
 {
     let count = rack.count();
-    if count > MOST_CHANNELS {
+    if count > MAX_CHANNELS {
         return Err(Refusal::NumberOfRecords);
     }
     Ok((0..count).map(|channel| channel_share(rack, channel)).sum())

@@ -110,15 +110,10 @@ hex_more i bytes c d h b e f =
     let low = get_or bytes i 0 % 16 in
     rw (e, f, encode_ascii (digit_of high) (digit_ascii high (omega arith)), encode_ascii (digit_of low) (digit_ascii low (omega arith)), add-one, taken i bytes h) (append_assoc (hex_of (take i bytes)) (digit_of high ∷ []) (digit_of low ∷ []))
 
--- the same, of digits that were pushed one by one
+-- the same, of digits that were put one by one
 pub hex_pushed : (i : ℕ) (bytes : List ℕ) (c d : ℕ) → i < length bytes → c ≡ digit_of (get_or bytes i 0 / 16) → d ≡ digit_of (get_or bytes i 0 % 16)
     → (hex_of (take i bytes) ++ (c ∷ [])) ++ (d ∷ []) ≡ hex_of (take (i + 1) bytes)
 hex_pushed i bytes c d h e f = rw (add-one, taken i bytes h, ← e, ← f) (append_assoc (hex_of (take i bytes)) (c ∷ []) (d ∷ []))
-
--- two digits for each byte
-pub hex_long : (bytes : List ℕ) → length (hex_of bytes) ≡ 2 * length bytes
-hex_long [] = refl
-hex_long (b ∷ bytes) = let rest = hex_long bytes in omega arith
 
 -- the digits of bytes in two parts
 pub hex_parts : (front back : List ℕ) → hex_of (front ++ back) ≡ hex_of front ++ hex_of back

@@ -11,7 +11,7 @@ use std::alloc::{AllocError, AllocFailed, Global};
 use std::error::Error;
 use std::fmt;
 
-// How many bytes are printed at once.
+// How many bytes are printed at once: as many as an answer has at most.
 const PART_LENGTH: usize = 64;
 
 const PART_DIGITS: usize = 2 * PART_LENGTH;
@@ -96,7 +96,7 @@ pub fn to_hex(heap: Global, bytes: &[u8]) -> Result<String, AllocError>
     format!(in heap; "{}", Hex(bytes))
 }
 
-// Appends the digits of `bytes`; where memory is short, some of them. By parts, so that a byte costs no look at what room there is.
+// Appends the digits of `bytes`; where memory is short, some of them. By parts: for room is asked once for each, not for each digit.
 pub fn push_hex(text: &mut Vec<u8>, bytes: &[u8]) -> Result<(), AllocError>
     ensures text { OnOk result (text.new.items ≡ text.old.items ++ hex_of bytes.now) }
     ensures front { take (length text.old.items) text.new.items ≡ text.old.items }

@@ -41,7 +41,7 @@ module _ (x : Reception) (h : Header) (r : Record) (f : Parts) (o : Outcome) (ou
   formed : request? q ≡ true
   formed = let w = wide x.span f whole in let p = after.fields.preambles in grind (arith, nat_tests)
 
-  few : length (reply_transmission q) ≤ 64
+  few : length (reply_transmission q) ≤ 50
   few = let w = wide x.span f whole in let p = after.fields.preambles in let l = length_sent 6 134 q in elim w [ inl e ↦ omega arith | inr e ↦ omega arith ]
 
   -- what filling says of a transmission in form that fits

@@ -99,4 +99,4 @@ pub record AnswerLaw (x : Reception) (preambles : ℕ) (bytes : List ℕ) : Type
   pub sent : Replies (asked preambles request.address request.command (status ∷ second ∷ «data»)) bytes
   pub start : slice_index_or sent.span 0 0 ≡ slice_index x.span 0 + 4
   pub count : slice_index_or sent.span (length request.address + 2) 0 ≡ length «data» + 2
-  pub short : length bytes ≤ 64
+  pub short : length bytes ≤ 50

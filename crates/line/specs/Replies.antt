@@ -8,8 +8,8 @@ use Rattle.record.specs.declared.Fields.{Fields}
 use Rattle.record.specs.declared.Record.{Record}
 
 -- FE, manufacturer 10, device type, the revisions and flags of these instruments, identification number
-abbrev pub identity_data : Fields → List ℕ
-identity_data f = 0xfe ∷ 10 ∷ f.device_type ∷ 2 ∷ 5 ∷ 1 ∷ 1 ∷ 8 ∷ 0 ∷ bytes24 f.identification
+abbrev pub unique_identifier_data : Fields → List ℕ
+unique_identifier_data f = 0xfe ∷ 10 ∷ f.device_type ∷ 2 ∷ 5 ∷ 1 ∷ 1 ∷ 8 ∷ 0 ∷ bytes24 f.identification
 
 -- percent, the setpoint, the flow unit, the setpoint in units; a lawful record has one, and 0 stands for what another lacks
 abbrev pub setpoint_data : Fields → List ℕ
@@ -19,7 +19,7 @@ setpoint_data f = 0x39 ∷ bytes32 f.setpoint ++ f.flow_unit ∷ bytes32 (unwrap
 -- same data.
 abbrev pub reply_data : ℕ → List ℕ → Record → List ℕ
 reply_data command bytes r =
-    cond (command == 0 || command == 11) (identity_data r.fields)
+    cond (command == 0 || command == 11) (unique_identifier_data r.fields)
     (cond (command == 1) (r.fields.flow_unit ∷ bytes32 (pattern_of r.reading.flow))
     (cond (command == 12) (take 24 (drop 21 r.text))
     (cond (command == 13) (take 21 r.text)

@@ -12,7 +12,7 @@ use record::{Fields, Identity, Record};
 pub(crate) const MANUFACTURER: u8 = 10;
 
 // What stands behind the first byte of the address of every channel.
-const NOBODY: Identity = Identity {
+const EVERY_CHANNEL: Identity = Identity {
     device_type: 0,
     identification: 0,
 };
@@ -51,7 +51,7 @@ pub fn address_means(address: Address<'_>, fields: Fields) -> bool
                 identification: u32::from_be_bytes([0, *a, *b, *c]),
             };
             (*first % 128 == MANUFACTURER && named == fields.identity())
-                || (*first % 128 == 0 && named == NOBODY)
+                || (*first % 128 == 0 && named == EVERY_CHANNEL)
         }
         _ => false,
     }

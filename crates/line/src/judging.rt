@@ -3,14 +3,15 @@ ghost use Rattle.setpoint.specs.Refusals.{admitted_under};
 ghost use Rattle.setpoint.specs.Value.{value_of};
 ghost use Rattle.record.specs.Bytes.{number32};
 ghost use Rattle.header.specs.Shares.{fits?};
-ghost use Rattle.line.specs.Codes.{code_number, code_of, weighed, percent?};
+ghost use Rattle.line.specs.Codes.{code_number, code_of, weighed};
 
 use crate::codes::{Header, ResponseCode};
 use crate::commands::*;
 use record::{Fields, MAX_POLLING_ADDRESS, MAX_PREAMBLES, MIN_PREAMBLES, Record};
 
-// The response code of a sound request to a channel, by one `match`, a rule of the project: each arm is one line of the order in
-// which codes are tried. Of command and data, and not of a frame, whose address and check have no part in it.
+// The response code of a sound request to a channel, by one `match`: of each command the arms stand in the order in which codes are
+// tried, and a command that no arm names is not implemented. Of command and data, and not of a frame, whose address and check have
+// no part in it.
 pub fn response_code(command: u8, data: &[u8], record: &Record, header: Header) -> ResponseCode
     ensures { code_number result ≡ code_of command «data».now «record».now header }
 {

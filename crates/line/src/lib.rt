@@ -19,4 +19,4 @@ pub use effects::{change_of, flag_of};
 pub use judging::response_code;
 pub use reception::Received;
 pub use requests::Request;
-pub use responding::{MOST_ANSWER, respond};
+pub use responding::{MAX_ANSWER, respond};

@@ -6,7 +6,7 @@ ghost use Rattle.line.specs.Characters.{reception_of};
 ghost use Rattle.line.specs.Views.{heard};
 ghost use Rattle.line.specs.Whole.{frame_of, sound?, error_status};
 
-use frame::{Frame, LEAST_PREAMBLES};
+use frame::{Frame, MIN_PREAMBLES};
 
 // What a receiver keeps of a transmission: the preambles counted, the part of the bytes from the start on, and all marks from
 // the start on together.
@@ -36,7 +36,7 @@ impl<'a> Received<'a> {
         ensures kind { IfSome result (λ f. Fitting f.address) }
         ensures whole { MatchOption result ((p : Parts) → 2 ≤ self.entry.preambles → RequestFrame self.entry.span.now p → ⊥) (λ f. (2 ≤ self.entry.preambles) × RequestFrame self.entry.span.now (frame_parts f)) }
     {
-        if self.preambles < LEAST_PREAMBLES {
+        if self.preambles < MIN_PREAMBLES {
             return None;
         }
         frame::read_frame(self.span).ok()

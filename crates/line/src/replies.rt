@@ -1,7 +1,7 @@
 ghost use Rattle.std.specs.Prelude.{◌≡◌, ◌∷◌};
-ghost use Rattle.record.specs.Bytes.{bytes24, bytes32};
+ghost use Rattle.record.specs.Bytes.{bytes32};
 ghost use Rattle.record.specs.Readings.{pattern_of};
-ghost use Rattle.line.specs.Replies.{identity_data, setpoint_data};
+ghost use Rattle.line.specs.Replies.{unique_identifier_data, setpoint_data};
 
 use crate::addressing::MANUFACTURER;
 use crate::commands::PERCENT;
@@ -10,9 +10,11 @@ use record::{Fields, pattern_of, u24_to_be_bytes};
 // Stands before the manufacturer in the data of an identity.
 const EXPANSION: u8 = 0xFE;
 
-// FE, the manufacturer, the device type, revisions and flags, the identification number.
-pub(crate) fn identity_data(fields: Fields) -> [u8; 12]
-    ensures { result ≡ identity_data fields }
+// FE, the manufacturer, the device type, and the identification number last. Between them 2 preambles that a request needs at least,
+// revision 5 of the universal and 1 of the device's own commands, revision 1 of the software, hardware revision 1 on RS-485, no
+// flags.
+pub(crate) fn unique_identifier_data(fields: Fields) -> [u8; 12]
+    ensures { result ≡ unique_identifier_data fields }
 {
     let [a, b, c] = u24_to_be_bytes(fields.identification);
     [

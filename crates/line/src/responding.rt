@@ -1,4 +1,4 @@
-ghost use Rattle.std.specs.Prelude.{◌≡◌, [], ◌∷◌, take, IfSome, IfOk};
+ghost use Rattle.std.specs.Prelude.{◌≡◌, take, IfSome, IfOk};
 ghost use Rattle.refusals.specs.Refusals.{numbered};
 ghost use Rattle.frame.specs.Views.{frame_parts};
 ghost use Rattle.record.specs.Lawful.{Lawful};
@@ -20,7 +20,7 @@ use record::Record;
 use refusals::Refusal;
 
 // No answer is longer: a buffer of this length suffices for every answer.
-pub const MOST_ANSWER: usize = 64;
+pub const MAX_ANSWER: usize = 64;
 
 // The second status where the configuration counts as changed.
 const CONFIGURATION_CHANGED: u8 = 64;
@@ -39,7 +39,7 @@ pub fn respond(
     ensures lawful { Lawful «record».old → Lawful «record».new }
     ensures answer { IfOk result (λ o. IfSome o (λ n. AnswerLaw (heard received.entry) «record».new.fields.preambles (take n out.new))) }
 {
-    if out.len() < MOST_ANSWER {
+    if out.len() < MAX_ANSWER {
         return Err(Refusal::ShortBuffer);
     }
     if !record::lawful(record) {

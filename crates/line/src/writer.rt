@@ -8,10 +8,10 @@ use frame::Frame;
 use record::{Record, u24_to_be_bytes};
 
 // Two status bytes and at most 24 data bytes.
-const MOST_CONTENT: usize = 26;
+const MAX_CONTENT: usize = 26;
 
 // What a reply's frame carries.
-pub(crate) type Content = ArrayVec<u8, MOST_CONTENT>;
+pub(crate) type Content = ArrayVec<u8, MAX_CONTENT>;
 
 // The two status bytes, and no data yet.
 pub(crate) fn status_bytes(status: u8, second: u8) -> Content
@@ -38,7 +38,7 @@ pub(crate) fn put_data(content: &mut Content, request: Frame<'_>, record: &Recor
 {
     match request.command {
         READ_UNIQUE_IDENTIFIER | READ_UNIQUE_IDENTIFIER_BY_TAG => {
-            put(content, &identity_data(record.fields))
+            put(content, &unique_identifier_data(record.fields))
         }
         READ_PRIMARY_VARIABLE => put(
             content,

@@ -3,7 +3,7 @@
 
 use anyhow::Context;
 use recording::Format;
-use setup::MOST_SUPPLY;
+use setup::MAX_SUPPLY;
 use shelf::RACK_FILE;
 use std::fs;
 
@@ -14,7 +14,7 @@ fn main(rt: HostRuntime) -> anyhow::Result<()> {
         rt.alloc(),
         Format::Linerun,
         file.as_slice(),
-        MOST_SUPPLY,
+        MAX_SUPPLY,
         rt.stdin(),
         rt.stdout(),
     )?;

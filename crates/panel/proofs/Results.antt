@@ -8,7 +8,7 @@ use Rattle.receiver.specs.Holding.{Holds}
 use Rattle.record.specs.declared.Record.{Record}
 use Rattle.runs.specs.Channel.{channel}
 use Rattle.runs.specs.Outcomes.{outcome_of}
-use Rattle.runs.specs.Traces.{Result, gap, refused}
+use Rattle.runs.specs.Traces.{Result, gap, refused, silent}
 use Rattle.serving.specs.Serving.{channel_and_length, front_of}
 use Rattle.panel.specs.Panels.{channels_of, outcome_for, Does, served_in, served_result, gap_result_of, buffer_of}
 use Rattle.panel.specs.declared.state.Panel.{Panel}
@@ -58,3 +58,8 @@ gap_does records p p' n y room new k r e =
 
 pub short_gap : (supply : Option ℕ) (rs : List Record) (t : List Character) (n : ℕ) → n < 64 → outcome_for supply rs t (gap n) ≡ outcome_of channel (refused 102) (channels_of supply rs) t
 short_gap supply rs t n l = rw (lt-ltb n 64 l) refl
+
+-- a gap that is silent has no answer
+pub silent_none : (o : Option Answer) (buffer : List ℕ) → gap_result_of (Ok o) buffer ≡ silent → o ≡ None
+silent_none (Some a) buffer e = cc
+silent_none None buffer e = refl

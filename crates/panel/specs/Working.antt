@@ -54,6 +54,11 @@ module _ {X : Type 0} (records : X → List Record) where
     pub promised : Promised supply before trace (records p.rack) line
     pub holds : Holds p.receiver line
 
+  -- Each call of a trace did what it does, one after another, on a panel that was set up or on one that was not.
+  pub data DoesAll (p : Panel X) : Trace channel → Panel X → Type 0 where
+    none : DoesAll p [] p
+    more : {trace : Trace channel} {p₁ p₂ : Panel X} {c : Call channel} {x : Result channel} → DoesAll p trace p₁ → Does records p₁ p₂ c x → DoesAll p (trace ++ ((c ▸ x) ∷ [])) p₂
+
   module _ (p p' : Panel X) {Dr : Type 0} (names : Dr → Dr → Call channel → Type 0) (hears : Dr → Dr → Event channel → Type 0) (ends : Dr → Dr → Type 0) (d d' : Dr) (buffer buffer' : List ℕ) where
     -- A panel was set up under a supply, and worked by a driver that named each call knowing the results of all earlier ones: of the
     -- trace of these calls the whole promise holds.
@@ -63,9 +68,10 @@ module _ {X : Type 0} (records : X → List Record) where
       pub underway : Underway supply (records p.rack) trace p'
       pub left : buffer' ≡ buffer_after trace buffer
 
-    -- it was worked on: whatever was promised of the calls till then is promised of those and these
+    -- It was worked on: each call did what it does, and whatever was promised of the calls till then is promised of those and these.
     pub record WorkedOn : Type 0 where
       pub trace : Trace channel
       pub driven : Driven names hears (length buffer) ends d trace d'
       pub left : buffer' ≡ buffer_after trace buffer
+      pub done : DoesAll p trace p'
       pub underway : (supply : ℕ) (before : List Record) (earlier : Trace channel) → Underway supply before earlier p → Underway supply before (earlier ++ trace) p'

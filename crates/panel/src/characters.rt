@@ -9,7 +9,7 @@ use receiver::Receiver;
 use refusals::Refusal;
 
 // All three marks together.
-const MOST_MARKS: u8 = 7;
+const MAX_MARKS: u8 = 7;
 
 impl<R: Rack> Panel<R> {
     // A panel that was not set up: it has no channels yet.
@@ -31,7 +31,7 @@ impl<R: Rack> Panel<R> {
         ensures same { is_ok result ≡ false → self.new ≡ self.old }
         ensures rack { self.new.rack ≡ self.old.rack }
     {
-        if marks > MOST_MARKS {
+        if marks > MAX_MARKS {
             return Err(Refusal::Marks);
         }
         self.receiver.push(byte, marks);

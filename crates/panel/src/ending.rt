@@ -1,11 +1,11 @@
-ghost use Rattle.std.specs.Prelude.{◌≡◌, ◌≤◌, false, length, is_ok, IfOk, IfSome};
+ghost use Rattle.std.specs.Prelude.{◌≡◌, ◌≤◌, false, length, None, is_ok, IfOk, IfSome};
 ghost use Rattle.std.specs.Option.{option_map};
-ghost use Rattle.runs.specs.Traces.{gap as gapCall};
+ghost use Rattle.runs.specs.Traces.{gap as gapCall, silent};
 ghost use Rattle.serving.specs.Serving.{channel_and_length, front_of};
 ghost use Rattle.panel.specs.Panels.{Does, served_in, gap_result_of, buffer_of};
 
 use crate::state::Panel;
-use line::MOST_ANSWER;
+use line::MAX_ANSWER;
 use rack::Rack;
 use receiver::Receiver;
 use refusals::Refusal;
@@ -18,9 +18,10 @@ impl<R: Rack> Panel<R> {
         ensures does { Does R.Rack.records self.old self.new (gapCall (length out.old)) (gap_result_of result out.new) }
         ensures buffer { out.new ≡ buffer_of (gap_result_of result out.new) out.old }
         ensures bound { IfOk result (λ o. IfSome o (λ a. a.length ≤ length out.old)) }
+        ensures idle { gap_result_of result out.new ≡ silent → self.new.rack ≡ self.old.rack }
         ensures same { is_ok result ≡ false → self.new ≡ self.old }
     {
-        if out.len() < MOST_ANSWER {
+        if out.len() < MAX_ANSWER {
             return Err(Refusal::ShortBuffer);
         }
         let answer = self.end(out);
@@ -34,6 +35,7 @@ impl<R: Rack> Panel<R> {
         ensures answer { option_map (λ a. (a.channel, a.length)) result ≡ channel_and_length (served_in R.Rack.records self.old).answer }
         ensures buffer { out.new ≡ front_of (served_in R.Rack.records self.old).answer out.old }
         ensures records { R.Rack.records self.new.rack ≡ (served_in R.Rack.records self.old).records }
+        ensures idle { result ≡ None → self.new.rack ≡ self.old.rack }
         ensures supply { self.new.supply ≡ self.old.supply }
     {
         let supply = self.supply?;

@@ -1,4 +1,4 @@
-// The panel: fifteen channels of a rack behind one line and one supply header.
+// The panel: at most fifteen channels of a rack behind one line and one supply header.
 #![tactic(auto)]
 
 mod characters;

@@ -1,4 +1,4 @@
-ghost use Rattle.std.specs.Prelude.{◌≡◌, true, false, not, ◌&&◌, leb, length, is_some, is_ok, if◌then◌else◌, nat_le};
+ghost use Rattle.std.specs.Prelude.{◌≡◌, false, not, ◌&&◌, leb, length, is_some, is_ok, if◌then◌else◌, nat_le};
 ghost use Rattle.rack.specs.Refusals as rack;
 ghost use Rattle.refusals.specs.Refusals.{number_of};
 ghost use Rattle.runs.specs.Channel.{Operation, sample as sampled, key as turned, change_of};
@@ -6,7 +6,7 @@ ghost use Rattle.runs.specs.Traces.{local};
 ghost use Rattle.panel.specs.Panels.{Does, result_of};
 
 use crate::state::Panel;
-use rack::{Change, MOST_CHANNELS, Rack, RackRefusal};
+use rack::{Change, MAX_CHANNELS, Rack, RackRefusal};
 use record::Reading;
 use refusals::Refusal;
 
@@ -25,7 +25,7 @@ impl<R: Rack> Panel<R> {
     pub(crate) fn is_set_up(&self) -> bool
         ensures { result ≡ (is_some self.now.supply && nat_le (length (R.Rack.records self.now.rack)) 15) }
     {
-        self.supply.is_some() && self.rack.count() <= MOST_CHANNELS
+        self.supply.is_some() && self.rack.count() <= MAX_CHANNELS
     }
 
     // Writes a reading of a channel: 101 where there is no such channel, then 108 where it is not finite.

@@ -1,4 +1,4 @@
-ghost use Rattle.std.specs.Prelude.{◌≡◌, false, [], is_ok, OnOk};
+ghost use Rattle.std.specs.Prelude.{◌≡◌, false, is_ok, OnOk};
 ghost use Rattle.std.specs.Option.{option_map};
 ghost use Rattle.std.specs.Result.{result_err};
 ghost use Rattle.refusals.specs.Refusals.{number_of};

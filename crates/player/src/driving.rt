@@ -1,4 +1,4 @@
-ghost use Rattle.std.specs.Prelude.{◌≡◌, ℕ, Ok, Some, None, List, ◌++◌, MatchOption, IfOk};
+ghost use Rattle.std.specs.Prelude.{◌≡◌, ℕ, Ok, Some, None, List, MatchOption, IfOk};
 ghost use Rattle.recording.specs.Events.{asked_of};
 ghost use Rattle.recording.specs.Recordings.{events_of, rest_of};
 ghost use Rattle.player.specs.Outputs.{State, lines_of, lines_after};

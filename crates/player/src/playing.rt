@@ -17,7 +17,7 @@ use std::alloc::Global;
 use std::io::{Read, Write};
 
 // The most room that an event asks for.
-const MOST_ROOM: usize = 255;
+const MAX_ROOM: usize = 255;
 
 // Why a recording is not played.
 #[derive(Clone, Copy, PartialEq, Debug)]
@@ -89,7 +89,7 @@ pub fn run<R: Read + Drop, W: Write + Drop>(
     ensures { (bytes out : List ℕ) → R.Read.remaining input ≡ Some bytes → W.Write.contents output ≡ Some out → IfOk result (λ w. W.Write.contents w ≡ Some (out ++ output_of format supply file.now bytes)) }
 {
     let mut player = Player::new(heap, format, input, output);
-    let mut buffer = [0; MOST_ROOM];
+    let mut buffer = [0; MAX_ROOM];
     let mut panel = match play(file, supply, &mut player, &mut buffer) {
         Ok(panel) => panel,
         Err(fault) => return player.refuse(fault.refusal()),

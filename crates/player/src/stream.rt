@@ -1,5 +1,6 @@
 ghost use Rattle.std.specs.Prelude.{◌≡◌, ◌%◌, ◌≤◌, length};
 ghost use Rattle.std.specs.IoError.{error_kind};
+ghost use Rattle.player.specs.Interruptions.{words_of};
 ghost use Rattle.player.specs.declared.stream.Interruption.TheVariants.{Memory, Stream};
 
 use recording::EVENT_LENGTH;
@@ -8,8 +9,8 @@ use std::error::Error;
 use std::ops::Range;
 use std::{fmt, io};
 
-// How many bytes of a recording a block has room for: of whole events, so that none is cut where it ends.
-pub const BLOCK_LENGTH: usize = 5461 * EVENT_LENGTH;
+// How many bytes of a recording a block has room for: as many whole events as 64 KiB hold, so that none is cut where it ends.
+pub(crate) const BLOCK_LENGTH: usize = 5461 * EVENT_LENGTH;
 
 // Why a recording was not played to its end.
 #[derive(Clone, Copy, Debug)]
@@ -38,6 +39,8 @@ impl From<io::Error> for Interruption {
 }
 
 impl fmt::Display for Interruption {
+    ghost output = { words_of };
+
     fn fmt<W: fmt::Write>(&self, f: &mut fmt::Formatter<W>) -> fmt::Result {
         match self {
             Interruption::Memory(e) => write!(f, "{e}"),

@@ -88,7 +88,7 @@ impl<R: Read + Drop, W: Write + Drop> EventStream<R, W> {
         }
     }
 
-    // Writes the lines out.
+    // Writes the lines out and flushes: who gives the input may wait for them.
     fn write_out(&mut self) -> io::Result<()>
         ensures written { OfStream R.Read.remaining W.Write.contents self.old (λ events rest out. OnOk result (Streams R.Read.remaining W.Write.contents self.new events rest out × (W.Write.contents self.new.output ≡ Some out))) }
         ensures unread { unread_of self.new ≡ unread_of self.old }

@@ -11,6 +11,6 @@ mod writes;
 pub use blank::blank_record;
 pub use changes::Change;
 pub use files::{FileFault, RecordError, check_record};
-pub use racks::{MOST_CHANNELS, Rack};
+pub use racks::{MAX_CHANNELS, Rack};
 pub use refusal::RackRefusal;
 pub use writes::apply;

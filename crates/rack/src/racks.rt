@@ -11,9 +11,9 @@ use crate::refusal::RackRefusal;
 use record::{Fields, Reading};
 
 // The most channels of a panel: of a rack's records no more can be asked and written.
-pub const MOST_CHANNELS: u8 = 15;
+pub const MAX_CHANNELS: u8 = 15;
 
-const _: () = prove!(MOST_CHANNELS == 15);
+const _: () = prove!(MAX_CHANNELS == 15);
 
 // A rack of channels. What it means is a list of records, numbered from 0, all of them lawful.
 pub trait Rack {

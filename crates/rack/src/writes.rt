@@ -9,7 +9,7 @@ use crate::refusal::RackRefusal;
 use record::{MAX_POLLING_ADDRESS, MAX_PREAMBLES, MAX_U24, MIN_PREAMBLES, Record, TEXT_LENGTH};
 use refusals::Refusal;
 
-const MOST_TEXT_RUN: usize = 24;
+const MAX_TEXT_RUN: usize = 24;
 
 const MINUS_ZERO: u32 = 0x8000_0000;
 
@@ -72,7 +72,7 @@ fn put_text(text: &mut [u8; TEXT_LENGTH], place: usize, bytes: &[u8]) -> Result<
     ensures answer { numbered result ≡ (if text_run? place bytes.now then Ok tt else Err 110) }
     ensures after { text.new ≡ (if text_run? place bytes.now then placed place bytes.now text.old else text.old) }
 {
-    if bytes.len() > MOST_TEXT_RUN || place > TEXT_LENGTH - bytes.len() {
+    if bytes.len() > MAX_TEXT_RUN || place > TEXT_LENGTH - bytes.len() {
         return Err(Refusal::OutOfForm.into());
     }
     text[place..place + bytes.len()].copy_from_slice(bytes);

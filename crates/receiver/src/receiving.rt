@@ -5,8 +5,8 @@ ghost use Rattle.line.specs.Views.{heard};
 ghost use Rattle.receiver.specs.Holding.{Holds};
 ghost use Rattle.receiver.specs.Summaries.{pushed, held, reception};
 
-use crate::state::{MOST_SPAN, Receiver};
-use frame::{LEAST_PREAMBLES, PREAMBLE};
+use crate::state::{MAX_SPAN, Receiver};
+use frame::{MIN_PREAMBLES, PREAMBLE};
 use line::Received;
 
 impl Receiver {
@@ -16,7 +16,7 @@ impl Receiver {
     {
         Receiver {
             preambles: 0,
-            bytes: [0; MOST_SPAN],
+            bytes: [0; MAX_SPAN],
             len: Some(0),
             marks: 0,
         }
@@ -36,10 +36,10 @@ impl Receiver {
     {
         match &mut self.len {
             Some(0) if byte == PREAMBLE => {
-                self.preambles = (self.preambles + 1).min(LEAST_PREAMBLES);
+                self.preambles = (self.preambles + 1).min(MIN_PREAMBLES);
                 return;
             }
-            Some(len) if *len < MOST_SPAN => {
+            Some(len) if *len < MAX_SPAN => {
                 self.bytes[*len] = byte;
                 *len += 1;
             }

@@ -4,4 +4,3 @@ pub mod Patterns
 pub mod Faultless
 pub mod Inverse
 pub mod FirstFaults
-pub mod Updates

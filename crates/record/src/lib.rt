@@ -31,11 +31,13 @@ pub struct Fields {
     // How many preambles a response has.
     pub preambles: u8,
     pub assembly_number: u32,
+    // Whether the configuration was changed since command 38.
     pub changed: bool,
+    // The key, a term of this project: while it is shut, commands that write are refused.
     pub key_open: bool,
     // In percent, a binary32 pattern.
     pub setpoint: u32,
-    // In whole percent.
+    // The ceiling, a term of this project: the largest setpoint that a write may give, in whole percent.
     pub ceiling: u8,
     // Only passed on.
     pub flow_unit: u8,

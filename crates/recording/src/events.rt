@@ -14,8 +14,8 @@ pub enum Format {
     Supplyrun,
 }
 
-// What an event asks for: a call, or one of the pauses, which stand here by themselves. A `Pause` in one case would lie over the
-// first bytes of a call, and each call would be put together and taken apart again.
+// What an event asks for. A look and a set-up are cases of their own and no `Pause`: within one case it would lie over a call's
+// first bytes, and each call would be copied once more.
 #[derive(Clone, Copy)]
 pub enum Event {
     Call(Call),
@@ -33,15 +33,8 @@ pub enum Pause {
 }
 
 impl Format {
-    // What an event asks for, by its kind in byte 0: what `decode_event` knows, and in a recording of supplyrun these too:
-    //
-    // | byte 0      | 1         | 2 and 3 | 4 to 7 | 8 to 11 |
-    // |-------------|-----------|---------|--------|---------|
-    // | 5 gap       | its room  | 0       | 0      | 0       |
-    // | 6 look      | channel   | 0       | 0      | 0       |
-    // | 7 set-up    | 0         | 0       | supply | 0       |
-    //
-    // The supply has its most significant byte first. Anything else is out of form.
+    // What an event asks for, by its kind in byte 0: what `decode_event` knows, and in a recording of supplyrun what `decode_own`
+    // knows (docs/SUPPLYRUN.md). Anything else is out of form.
     #[inline(always)]
     pub fn decode(self, event: &[u8; EVENT_LENGTH]) -> Result<Event, Refusal>
         ensures { asked_by result ≡ event_asks self event.now }

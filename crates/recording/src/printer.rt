@@ -1,4 +1,4 @@
-ghost use Rattle.std.specs.Prelude.{◌≡◌, ◌++◌, take, length, decimal, is_ok, OnOk, if◌then◌else◌};
+ghost use Rattle.std.specs.Prelude.{◌≡◌, [], ◌++◌, take, length, decimal, is_ok, IsOk, OnOk, if◌then◌else◌};
 ghost use Rattle.refusals.specs.Refusals.{number_of};
 ghost use Rattle.calls.specs.Views.{result_of};
 ghost use Rattle.recording.specs.Lines.{refusal_line, answer_line, line_of};
@@ -16,7 +16,8 @@ pub fn push_line(
     lines: &mut Vec<u8>,
     outcome: Result<Outcome<'_>, Refusal>,
 ) -> Result<(), AllocError>
-    ensures { lines.new.items ≡ (if is_ok result then lines.old.items ++ line_of (result_of outcome.entry) else lines.old.items) }
+    ensures line { lines.new.items ≡ (if is_ok result then lines.old.items ++ line_of (result_of outcome.entry) else lines.old.items) }
+    ensures free { line_of (result_of outcome.entry) ≡ [] → IsOk result }
 {
     let start = lines.len();
     let pushed = match outcome {

@@ -1,4 +1,4 @@
--- The three ways in which a call that fills a lent buffer ends.
+-- How a call that fills a lent buffer ends, where what it is given is in form.
 use Rattle.std.proofs.Common.{◌≡◌, ℕ, ◌<◌, ◌≤◌, Bool, true, false, cond, leb, List, ◌++◌, length, take, drop, IfOk, Ok, Err, Result, sym, refl, subst, le-leb}
 use Rattle.std.proofs.lemmas.List.{take_at}
 use Rattle.refusals.specs.Refusals.{numbered}
@@ -7,9 +7,6 @@ use borrow.Author.Tests.{lt-leb}
 use Rattle.refusals.specs.Filling.{Fills}
 
 module _ {formed : Bool} {bytes before : List ℕ} where
-  pub fills_unformed : formed ≡ false → Fills formed bytes before (Err 110) before
-  fills_unformed f = record { answers = rw f; leaves = rw f }
-
   pub fills_short : formed ≡ true → length before < length bytes → Fills formed bytes before (Err 102) before
   fills_short f h = record { answers = rw (f, lt-leb _ _ h); leaves = rw (f, lt-leb _ _ h) }
 

@@ -26,7 +26,7 @@ pub enum Refusal {
     Supply = 107,
     // A flow or a temperature is not finite.
     Reading = 108,
-    // A character has marks that there are not.
+    // A character's marks are above 7: there are only parity, 1, overrun, 2, and framing, 4.
     Marks = 109,
     // The input is not in the form that the call asks for.
     OutOfForm = 110,

@@ -34,7 +34,7 @@ module _ (D : Device) where
   granted k g t [] = g
   granted k g t (e ∷ es) = granted k (grant_after k g t e.call e.result) (line_after t e.call e.result) es
 
-  -- a channel by its plate and by what the history tells of it
+  -- The standing of a channel, a term of this project: its nameplate and what the history tells of it.
   pub record Standing : Type 0 where
     pub plate : D.Plate
     pub grant : D.Grant

@@ -15,6 +15,7 @@ module _ (D : Device) where
   pub record Isolated (capacity : ℕ) (k : ℕ) (r : D.Rec) (trace : Trace D) (r' : D.Rec) : Type 0 where
     -- that panel's set-up is taken
     pub fits : total D (r ∷ []) ≤ capacity
+    -- it ends with the very record of the channel, in all its bytes
     pub run : Run D capacity (r ∷ []) [] (lone D k [] trace) (r' ∷ []) []
     -- with these calls it has no other run
     pub unique : (es : Trace D) (rs : Rack D) (t : Line D) → Run D capacity (r ∷ []) [] es rs t → calls_of es ≡ calls_of (lone D k [] trace)

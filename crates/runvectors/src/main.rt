@@ -8,7 +8,7 @@
 
 use anyhow::anyhow;
 use recording::Format;
-use setup::MOST_SUPPLY;
+use setup::MAX_SUPPLY;
 use std::str;
 use words::to_bytes;
 
@@ -28,7 +28,7 @@ fn run(rt: &HostRuntime) -> anyhow::Result<()> {
 
 fn call(rt: &HostRuntime, words: &[&str]) -> anyhow::Result<()> {
     match words {
-        ["linerun", file, events] => play(rt, Format::Linerun, MOST_SUPPLY, file, events),
+        ["linerun", file, events] => play(rt, Format::Linerun, MAX_SUPPLY, file, events),
         ["supplyrun", supply, file, events] => {
             play(rt, Format::Supplyrun, supply.parse()?, file, events)
         }

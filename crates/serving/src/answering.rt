@@ -1,4 +1,4 @@
-ghost use Rattle.std.specs.Prelude.{◌≡◌, ◌≤◌, length, if◌then◌else◌, Some, nat_le, slice_set};
+ghost use Rattle.std.specs.Prelude.{◌≡◌, length, if◌then◌else◌, Some, nat_le, slice_set};
 ghost use Rattle.frame.specs.Views.{frame_parts};
 ghost use Rattle.line.specs.Effects.{effect, flagged};
 ghost use Rattle.line.specs.Views.{heard};

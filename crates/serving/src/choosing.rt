@@ -9,14 +9,14 @@ ghost use Rattle.serving.specs.Meant.{means_option, sole_meant};
 use crate::reading::text_of;
 use frame::Frame;
 use line::{Request, TAG_LENGTH, address_means, tag_means};
-use rack::{MOST_CHANNELS, Rack};
+use rack::{MAX_CHANNELS, Rack};
 
 // The one channel that a request's frame means; none where it means no channel or several, or the rack has too many.
 pub fn sole_meant<R: Rack>(rack: &R, frame: Frame<'_>) -> Option<u8>
     ensures { result ≡ sole_meant (frame_parts frame.entry) (R.Rack.records rack.now) }
 {
     let count = rack.count();
-    if count > MOST_CHANNELS {
+    if count > MAX_CHANNELS {
         return None;
     }
     let mut meant = (0..count).filter(|channel| meant_at(rack, frame, *channel));

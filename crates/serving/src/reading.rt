@@ -1,4 +1,4 @@
-ghost use Rattle.std.specs.Prelude.{◌≡◌, ◌≤◌, List, take, Some};
+ghost use Rattle.std.specs.Prelude.{◌≡◌, ◌≤◌, take, Some};
 ghost use Rattle.rack.specs.Meaning.{channel_of};
 ghost use Rattle.record.specs.declared.Record.{Record as ChannelRecord};
 

@@ -1,13 +1,12 @@
-ghost use Rattle.std.specs.Prelude.{◌≡◌};
+ghost use Rattle.std.specs.Prelude.{◌≡◌, None};
 ghost use Rattle.std.specs.Option.{option_map};
-ghost use Rattle.frame.specs.Views.{frame_parts};
 ghost use Rattle.line.specs.Views.{heard};
 ghost use Rattle.serving.specs.Serving.{served_into, channel_and_length, front_of};
 
 use crate::answering::{carry_out, is_accepted, others_share};
 use crate::choosing::sole_meant;
 use crate::reading::record_of;
-use line::{Header, MOST_ANSWER, Received, respond};
+use line::{Header, MAX_ANSWER, Received, respond};
 use rack::Rack;
 
 // Who answers, and by how many bytes.
@@ -27,9 +26,10 @@ pub fn serve<R: Rack>(
 ) -> Option<Answer>
     ensures answer { option_map (λ x. (x.channel, x.length)) result ≡ channel_and_length (served_into out.old supply (R.Rack.records rack.old) (heard received.entry)).answer }
     ensures buffer { out.new ≡ front_of (served_into out.old supply (R.Rack.records rack.old) (heard received.entry)).answer out.old }
+    ensures idle { result ≡ None → rack.new ≡ rack.old }
     ensures records { R.Rack.records rack.new ≡ (served_into out.old supply (R.Rack.records rack.old) (heard received.entry)).records }
 {
-    if out.len() < MOST_ANSWER {
+    if out.len() < MAX_ANSWER {
         return None;
     }
     let frame = received.frame()?;

@@ -1,2 +1,2 @@
-pub mod Twins
+pub mod SameIdentity
 pub mod SetUps

@@ -1,4 +1,4 @@
--- There are no twins exactly where the channels are distinct.
+-- No two channels have the same identity exactly where the channels are distinct.
 use Rattle.std.proofs.Common.{◌≡◌, ℕ, suc, true, false, List, [], ◌∷◌, sym, refl, ap, arith}
 use Rattle.std.proofs.lemmas.Bool.{both_ways, or_parts, or_from, false_from_ne_true}
 use Rattle.std.proofs.lemmas.Bool.Decides.{nat_tests}
@@ -6,7 +6,7 @@ use Rattle.record.specs.declared.Fields.{Fields}
 use Rattle.record.specs.declared.Record.{Record}
 use Rattle.runs.specs.Places.{At, here, there}
 use Rattle.runs.specs.SetUps.{Distinct}
-use Rattle.setup.specs.SetUps.{same_identity?, among?, twins?}
+use Rattle.setup.specs.SetUps.{same_identity?, among?, any_same_identity?}
 
 -- the same device type and identification number
 abbrev Same : Fields → Fields → Type 0
@@ -29,19 +29,19 @@ none_among f [] h = refl
 none_among f (r ∷ records) h =
     or_from (same_identity? f r.fields) (among? f records) (false_from_ne_true (same_identity? f r.fields) (λ e. h 0 r here (identity_same f r.fields e))) (none_among f records (λ k q a. h (suc k) q (there a)))
 
--- no twins, and distinct channels
-pub distinct : {records : List Record} {j k : ℕ} {q r : Record} → twins? records ≡ false → At records j q → At records k r → Same q.fields r.fields → j ≡ k
+-- no two of the same identity, and distinct channels
+pub distinct : {records : List Record} {j k : ℕ} {q r : Record} → any_same_identity? records ≡ false → At records j q → At records k r → Same q.fields r.fields → j ≡ k
 distinct e here here s = refl
 distinct e (here {x = q} {xs = records}) (there b) s =
-    absurd (not_among q.fields b (or_parts (among? q.fields records) (twins? records) e).0 s)
+    absurd (not_among q.fields b (or_parts (among? q.fields records) (any_same_identity? records) e).0 s)
 distinct e (there a) (here {x = r} {xs = records}) s =
-    absurd (not_among r.fields a (or_parts (among? r.fields records) (twins? records) e).0 (sym s.0, sym s.1))
+    absurd (not_among r.fields a (or_parts (among? r.fields records) (any_same_identity? records) e).0 (sym s.0, sym s.1))
 distinct e (there {y = x} {xs = records} a) (there b) s =
-    ap suc (distinct (or_parts (among? x.fields records) (twins? records) e).1 a b s)
+    ap suc (distinct (or_parts (among? x.fields records) (any_same_identity? records) e).1 a b s)
 
-pub no_twins : (records : List Record) → Distinct records → twins? records ≡ false
-no_twins [] d = refl
-no_twins (x ∷ records) d =
-    or_from (among? x.fields records) (twins? records)
+pub none_same : (records : List Record) → Distinct records → any_same_identity? records ≡ false
+none_same [] d = refl
+none_same (x ∷ records) d =
+    or_from (among? x.fields records) (any_same_identity? records)
     (none_among x.fields records (λ k r a s. let z : 0 ≡ suc k = d 0 (suc k) x r here (there a) s.0 s.1 in omega arith))
-    (no_twins records (λ j k q r a b s t. let z : suc j ≡ suc k = d (suc j) (suc k) q r (there a) (there b) s t in omega arith))
+    (none_same records (λ j k q r a b s t. let z : suc j ≡ suc k = d (suc j) (suc k) q r (there a) (there b) s t in omega arith))

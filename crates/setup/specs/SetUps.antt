@@ -27,13 +27,13 @@ abbrev pub record_among? : List Record → Option Record → Bool
 record_among? later (Some r) = among? r.fields later
 record_among? later None = false
 
-abbrev pub twin_at? : List Record → ℕ → Bool
-twin_at? records channel = record_among? (drop (channel + 1) records) (channel_of records channel)
+abbrev pub same_identity_later? : List Record → ℕ → Bool
+same_identity_later? records channel = record_among? (drop (channel + 1) records) (channel_of records channel)
 
 -- whether some two channels have the same identity
-abbrev pub twins? : List Record → Bool
-twins? [] = false
-twins? (r ∷ records) = among? r.fields records || twins? records
+abbrev pub any_same_identity? : List Record → Bool
+any_same_identity? [] = false
+any_same_identity? (r ∷ records) = among? r.fields records || any_same_identity? records
 
 -- whether the channels are at most 15 and their shares fit
 abbrev pub shares_fit? : ℕ → List Record → Bool
@@ -45,5 +45,5 @@ abbrev pub set_up_refusal : ℕ → List Record → Option ℕ
 set_up_refusal supply records =
     cond (nat_lt 15000000 supply) (Some 107)
     (cond (nat_lt 15 (length records)) (Some 104)
-    (cond (twins? records) (Some 105)
+    (cond (any_same_identity? records) (Some 105)
     (cond (fits? supply (total_share records)) None (Some 106))))

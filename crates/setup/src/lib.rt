@@ -6,14 +6,14 @@ ghost use Rattle.std.specs.Option.{option_map};
 ghost use Rattle.std.specs.Result.{result_err};
 ghost use Rattle.refusals.specs.Refusals.{number_of};
 ghost use Rattle.runs.specs.SetUps.{SetUp};
-ghost use Rattle.setup.specs.SetUps.{identity_at?, among?, twin_at?, twins?, shares_fit?, set_up_refusal};
+ghost use Rattle.setup.specs.SetUps.{identity_at?, among?, same_identity_later?, any_same_identity?, shares_fit?, set_up_refusal};
 
-use rack::{MOST_CHANNELS, Rack};
+use rack::{MAX_CHANNELS, Rack};
 use record::Fields;
 use refusals::Refusal;
 
 // The largest supply that a header gives, in mL/min.
-pub const MOST_SUPPLY: u32 = 15_000_000;
+pub const MAX_SUPPLY: u32 = 15_000_000;
 
 // Whether the set-up of a rack under a supply, in mL/min, is taken: exactly where `SetUp` holds. The first refusal that applies:
 // supply, number of records, identities, shares.
@@ -22,13 +22,13 @@ pub fn check<R: Rack>(rack: &R, supply: u32) -> Result<(), Refusal>
     ensures taken { OnOk result (SetUp supply (R.Rack.records rack.now)) }
     ensures exact { SetUp supply (R.Rack.records rack.now) → IsOk result }
 {
-    if supply > MOST_SUPPLY {
+    if supply > MAX_SUPPLY {
         return Err(Refusal::Supply);
     }
-    if rack.count() > MOST_CHANNELS {
+    if rack.count() > MAX_CHANNELS {
         return Err(Refusal::NumberOfRecords);
     }
-    if any_twins(rack) {
+    if any_same_identity(rack) {
         return Err(Refusal::SameIdentity);
     }
     if !shares_fit(rack, supply) {
@@ -46,17 +46,17 @@ fn shares_fit<R: Rack>(rack: &R, supply: u32) -> bool
 
 // Whether some two channels have the same identity. Of a rack of at most 15 channels, as the two below: a type for such a rack
 // would be a rack again, with all its methods.
-fn any_twins<R: Rack>(rack: &R) -> bool
+fn any_same_identity<R: Rack>(rack: &R) -> bool
     requires { length (R.Rack.records rack.now) ≤ 15 }
-    ensures { result ≡ twins? (R.Rack.records rack.now) }
+    ensures { result ≡ any_same_identity? (R.Rack.records rack.now) }
 {
-    (0..rack.count()).any(|channel| has_twin(rack, channel))
+    (0..rack.count()).any(|channel| has_same_identity_later(rack, channel))
 }
 
 // Whether a later channel has the identity of this one.
-fn has_twin<R: Rack>(rack: &R, channel: u8) -> bool
+fn has_same_identity_later<R: Rack>(rack: &R, channel: u8) -> bool
     requires { length (R.Rack.records rack.now) ≤ 15 }
-    ensures { result ≡ twin_at? (R.Rack.records rack.now) channel }
+    ensures { result ≡ same_identity_later? (R.Rack.records rack.now) channel }
 {
     rack.fields(channel)
         .is_ok_and(|fields| has_identity_from(rack, channel + 1, fields))

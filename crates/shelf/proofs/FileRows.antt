@@ -9,7 +9,7 @@ use Rattle.record.specs.Layout.{decoded}
 use Rattle.record.specs.declared.faults.RecordFault.{RecordFault}
 use Rattle.rack.specs.declared.files.RecordError.{RecordError}
 use Rattle.rack.specs.Files.{fault_in, first_bad}
-use Rattle.shelf.specs.Rows.{records_in}
+use Rattle.shelf.specs.Rows.{Faultless, records_in}
 
 none_of : (number : ℕ) (f : Option RecordFault) → None ≡ fault_in number f None → (rest : Option RecordError) → fault_in number f rest ≡ rest
 none_of number (Some x) e rest = cc
@@ -29,6 +29,14 @@ module _ (rows : List (List ℕ)) (i : ℕ) (h : i < length rows) (inv : first_b
 
   pub found : (x : RecordError) → Some x ≡ fault_in i (fault_of (get_or rows i [])) None → first_bad 0 rows ≡ Some x
   found x e = sym inv ∙ (at_drop_more (first_bad i) rows i [] h ∙ some_of i (fault_of (get_or rows i [])) x e rest)
+
+-- a row of which no fault is told has none
+pub none_told : (number : ℕ) (f : Option RecordFault) → None ≡ fault_in number f None → f ≡ None
+none_told number (Some x) e = cc
+none_told number None e = refl
+
+pub faultless_more : (rows : List (List ℕ)) (i : ℕ) → i < length rows → AllByRecursion Faultless (take i rows) → Faultless (get_or rows i []) → AllByRecursion Faultless (take (i + 1) rows)
+faultless_more rows i h inv p = rw (take_more rows i [] h) (All-push Faultless (take i rows) (get_or rows i []) inv p)
 
 -- one lawful record more
 pub lawful_more : (rows : List (List ℕ)) (i : ℕ) → i < length rows → AllByRecursion Lawful (records_in (take i rows)) → Lawful (decoded (get_or rows i [])) → AllByRecursion Lawful (records_in (take (i + 1) rows))

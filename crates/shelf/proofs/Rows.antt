@@ -1,7 +1,12 @@
 -- The records of a shelf by their rows.
-use Rattle.std.proofs.Common.{◌≡◌, ℕ, List, length, set, ap, ◌∙◌, arith, length-set}
-use Rattle.std.specs.List.{refill}
-use Rattle.std.proofs.lemmas.List.{map-set, take_all, drop_all, append-nil}
+use Rattle.std.proofs.Common.{◌≡◌, ℕ, ◌<◌, ◌≤◌, ltb, leb, List, length, set, Some, None, Option, MatchOption, Bor, sym, ap, ◌∙◌, arith, length-set}
+use Rattle.std.specs.List.{refill, HoldsAt}
+use Rattle.std.specs.Option.{option_map}
+use Rattle.std.proofs.lemmas.Bool.{and_left, le-ltb, cond-false}
+use Rattle.std.proofs.lemmas.Option.{slice_get-map, slice_get-get_or}
+use Rattle.rack.specs.Meaning.{told, channel_of}
+use Rattle.rack.proofs.Channels.{channel_plain}
+use Rattle.std.proofs.lemmas.List.{length-map, map-set, take_all, drop_all, append-nil}
 use Rattle.record.specs.declared.Record.{Record}
 use Rattle.record.specs.Layout.{decoded}
 use Rattle.shelf.specs.Rows.{records_in}
@@ -13,3 +18,9 @@ refill_set rows slice c row e = rw (e, length-set rows c row, drop_all (length r
 -- the records after it
 pub set_row : (rows : List (List ℕ)) (c : ℕ) (row : List ℕ) (r : Record) → decoded row ≡ r → records_in (set rows c row) ≡ set (records_in rows) c r
 set_row rows c row r e = map-set decoded rows c row ∙ ap (set (records_in rows) c) e
+
+-- the record of a channel, from its row
+pub row_record : (rows : List (List ℕ)) (c : ℕ) (got : Option (Bor (List ℕ))) → length rows ≤ 15 → MatchOption got (length rows ≤ c) (λ x. (c < length rows) × HoldsAt (λ y. x.now ≡ y) rows c)
+    → option_map (λ row. decoded row.now) got ≡ channel_of (records_in rows) c
+row_record rows c None few h = sym (cond-false _ _ _ (and_left (ltb c (told (records_in rows))) (leb c 14) (le-ltb c (told (records_in rows)) (omega (arith, length-map rows decoded)))))
+row_record rows c (Some x) few h = sym (channel_plain (records_in rows) c (omega (arith, h.0)) ∙ (slice_get-map decoded rows c ∙ ap (option_map decoded) (slice_get-get_or rows c x.now h.0 ∙ ap Some (sym (h.1 x.now)))))

@@ -5,4 +5,4 @@ mod filling;
 mod shelf;
 mod shelf_rack;
 
-pub use shelf::{MOST_RECORDS, RACK_FILE, Shelf};
+pub use shelf::{MAX_RECORDS, RACK_FILE, Shelf};

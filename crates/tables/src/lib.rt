@@ -1,7 +1,6 @@
 // What several programs read in the lines of their tables, and the answers that they print.
 #![tactic(auto)]
 
-ghost use Rattle.std.specs.Prelude.{◌≡◌};
 ghost use Rattle.tables.specs.Words.{bytes_at};
 ghost use Rattle.words.specs.Answers.{Reads};
 

@@ -4,13 +4,15 @@ use crate::parts::{Part, show_parts};
 use anyhow::Context;
 use digits::Hex;
 use frame::{Address, Transmission};
-use line::MOST_ANSWER;
+use line::MAX_ANSWER;
 use master::{flow_pattern, long_address};
 use panel::Panel;
 use rack::Rack;
 use record::value_of;
 use shelf::Shelf;
 
+// Numbers of a master's requests. They are its own: `line` tells what channels do.
+//
 // "Read primary variable": the flow.
 const READ_FLOW: u8 = 1;
 
@@ -75,7 +77,7 @@ pub(crate) fn follow(rt: &HostRuntime, shelf: Shelf, question: &[u8]) -> anyhow:
     let mut panel = Panel::new(shelf);
     panel.set_up(SUPPLY)?;
     println!(rt; "\n7. The panel is set up with this supply, and hears the question:")?;
-    let mut line = [0; MOST_ANSWER];
+    let mut line = [0; MAX_ANSWER];
     let len = hear(rt, &mut panel, question, &IDENTIFIER_REPLY, &mut line)?;
     let reply = line.get(0..len).unwrap_or(&[]);
     let address = long_address(reply).context("a reply with no identifier")?;
@@ -94,7 +96,7 @@ fn ask_flow<R: Rack>(rt: &HostRuntime, panel: &mut Panel<R>, address: &[u8]) -> 
         command: READ_FLOW,
         data: &[],
     };
-    let mut line = [0; MOST_ANSWER];
+    let mut line = [0; MAX_ANSWER];
     let len = ask(rt, panel, question, &FLOW_REPLY, &mut line)?;
     let reply = line.get(0..len).unwrap_or(&[]);
     let flow = flow_pattern(reply).context("a reply with no flow")?;
@@ -124,14 +126,14 @@ fn fill_header<R: Rack>(rt: &HostRuntime, panel: &mut Panel<R>) -> anyhow::Resul
 // A request whose check byte was damaged.
 fn send_damaged<R: Rack>(rt: &HostRuntime, panel: &mut Panel<R>) -> anyhow::Result<()> {
     println!(rt; "\n13. 0 percent for channel 0, with a damaged check. A communication error:")?;
-    let mut sent = [0; MOST_ANSWER];
+    let mut sent = [0; MAX_ANSWER];
     let data = setpoint_data(0);
     let len = frame::make_request(setpoint_request(&[0x81], &data), &mut sent)?;
     let damaged = sent.get_mut(0..len).context("a request without bytes")?;
     if let Some(check) = damaged.last_mut() {
         *check ^= 0x01;
     }
-    let mut line = [0; MOST_ANSWER];
+    let mut line = [0; MAX_ANSWER];
     println!(rt; "     {}", Hex(damaged))?;
     hear(rt, panel, damaged, &DENIAL, &mut line)?;
     Ok(())
@@ -160,7 +162,7 @@ fn ask_setpoint<R: Rack>(
     parts: &[Part],
 ) -> anyhow::Result<()> {
     let data = setpoint_data(pattern);
-    let mut line = [0; MOST_ANSWER];
+    let mut line = [0; MAX_ANSWER];
     ask(
         rt,
         panel,
@@ -179,7 +181,7 @@ fn ask<R: Rack>(
     parts: &[Part],
     line: &mut [u8],
 ) -> anyhow::Result<usize> {
-    let mut sent = [0; MOST_ANSWER];
+    let mut sent = [0; MAX_ANSWER];
     let len = frame::make_request(question, &mut sent)?;
     let sent = sent.get(0..len).context("a request without bytes")?;
     println!(rt; "     {}", Hex(sent))?;

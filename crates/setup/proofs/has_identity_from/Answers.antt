@@ -2,7 +2,7 @@ use Rattle.std.proofs.Common.{◌-◌, ◌∙◌, refl, arith, rules, tests}
 use Rattle.std.proofs.lemmas.Iterator.{YieldsList-from_range}
 use Rattle.std.proofs.lemmas.Iterator.Search.{any_from_yields_List}
 use Rattle.setup.specs.SetUps.{identity_at?}
-use Rattle.setup.proofs.Twins.{among_from}
+use Rattle.setup.proofs.SameIdentity.{among_from}
 use Rattle.setup.proofs.has_identity_from.Goals as goal
 
 pub returns : goal.returns

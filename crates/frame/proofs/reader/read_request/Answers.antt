@@ -8,15 +8,15 @@ use Rattle.frame.specs.Check.{check_of}
 use Rattle.frame.specs.Transmissions.{read_request}
 use Rattle.frame.proofs.Meanings.{request_value, request_refused, request_means, request_again}
 use Rattle.frame.proofs.reader.read_request.Goals as goal
-use Rattle.frame.proofs.reader.read_request.Goals.{then-preambles-lt-LEAST_PREAMBLES-via-then-preambles-lt-LEAST_PREAMBLES, then-preambles-lt-LEAST_PREAMBLES-via-else-preambles-lt-LEAST_PREAMBLES+then-check-ne0}
+use Rattle.frame.proofs.reader.read_request.Goals.{then-preambles-lt-MIN_PREAMBLES-via-then-preambles-lt-MIN_PREAMBLES, then-preambles-lt-MIN_PREAMBLES-via-else-preambles-lt-MIN_PREAMBLES+then-check-ne0}
 
-pub returns-then-preambles-lt-LEAST_PREAMBLES : goal.returns-then-preambles-lt-LEAST_PREAMBLES
-returns-then-preambles-lt-LEAST_PREAMBLES c =
+pub returns-then-preambles-lt-MIN_PREAMBLES : goal.returns-then-preambles-lt-MIN_PREAMBLES
+returns-then-preambles-lt-MIN_PREAMBLES c =
     let bytes = c.args.bytes.now in
     let n = c.count_preambles-preambles.ensures.value in
-    let value : Err 110 ≡ read_request bytes = request_refused bytes (elim c.then-preambles-lt-LEAST_PREAMBLES.branch [
-      | then-preambles-lt-LEAST_PREAMBLES-via-then-preambles-lt-LEAST_PREAMBLES w ↦ inl (omega (arith, n, w.if-preambles-lt-LEAST_PREAMBLES.true))
-      | then-preambles-lt-LEAST_PREAMBLES-via-else-preambles-lt-LEAST_PREAMBLES+then-check-ne0 w ↦ inr (λ z. w.if-check-ne0.true (w.check.ensures ∙ (ap check_of (take_rest bytes c.count_preambles-preambles.result ∙ ap (λ m. drop m bytes) n) ∙ z)))
+    let value : Err 110 ≡ read_request bytes = request_refused bytes (elim c.then-preambles-lt-MIN_PREAMBLES.branch [
+      | then-preambles-lt-MIN_PREAMBLES-via-then-preambles-lt-MIN_PREAMBLES w ↦ inl (omega (arith, n, w.if-preambles-lt-MIN_PREAMBLES.true))
+      | then-preambles-lt-MIN_PREAMBLES-via-else-preambles-lt-MIN_PREAMBLES+then-check-ne0 w ↦ inr (λ z. w.if-check-ne0.true (w.check.ensures ∙ (ap check_of (take_rest bytes c.count_preambles-preambles.result ∙ ap (λ m. drop m bytes) n) ∙ z)))
     ]) in
     record { value = value; kind = tt; means = request_means (Err OutOfForm) bytes value; again = tt }
 

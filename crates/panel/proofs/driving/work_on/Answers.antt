@@ -2,13 +2,13 @@ use Rattle.std.proofs.Common.{[], ◌∷◌, ◌++◌, sym, ap, ◌∙◌, subst
 use Rattle.calls.specs.Views.{call_of}
 use Rattle.runs.specs.Channel.{channel}
 use Rattle.runs.specs.Traces.{Trace, ◌▸◌}
-use Rattle.panel.specs.Working.{begins, goes, within, Underway}
+use Rattle.panel.specs.Working.{begins, goes, none, more, within, Underway}
 use Rattle.panel.specs.Panels.{buffer_of}
 use Rattle.panel.proofs.Working.{goes_on, buffer_more}
 use Rattle.panel.proofs.driving.work_on.Goals as goal
 
 pub loop-init : goal.loop-init
-loop-init g c = ([], begins, omega arith, refl, λ supply before earlier u. subst (λ (h : Trace channel). Underway g.R.Rack.records supply before h c.args.panel.now) (sym (append-nil earlier)) u)
+loop-init g c = ([], begins, omega arith, refl, λ supply before earlier u. subst (λ (h : Trace channel). Underway g.R.Rack.records supply before h c.args.panel.now) (sym (append-nil earlier)) u, none)
 
 pub loop-preserved : goal.loop-preserved
 loop-preserved g c =
@@ -21,16 +21,17 @@ loop-preserved g c =
       omega (arith, length-append l.0 (event ∷ [])),
       made.left ∙ (ap (buffer_of made.result) l.3 ∙ sym (buffer_more l.0 event c.args.buffer.now)),
       λ supply before earlier u. subst (λ (h : Trace channel). Underway g.R.Rack.records supply before h c.perform.new.panel) (append_assoc earlier l.0 (event ∷ [])) (goes_on g.R.Rack.records supply before (earlier ++ l.0) named made (l.4 supply before earlier u)),
+      more l.5 made.does,
     )
 
 -- as many calls as a run may have
 pub returns : goal.returns
 returns g c =
     let l = c.loop.invariant in
-    record { trace = l.0; driven = record { last = c.loop.driver; drives = l.1; ended = inr (omega (arith, c.loop-test.false), refl) }; left = l.3; underway = l.4 }
+    record { trace = l.0; driven = record { last = c.loop.driver; drives = l.1; ended = inr (omega (arith, c.loop-test.false), refl) }; left = l.3; done = l.5; underway = l.4 }
 
 -- the driver ended the run
 pub returns-in_default : goal.returns-in_default
 returns-in_default g c =
     let l = c.loop.invariant in
-    record { trace = l.0; driven = record { last = c.loop.driver; drives = l.1; ended = inl c.in_default.ensures }; left = l.3; underway = l.4 }
+    record { trace = l.0; driven = record { last = c.loop.driver; drives = l.1; ended = inl c.in_default.ensures }; left = l.3; done = l.5; underway = l.4 }

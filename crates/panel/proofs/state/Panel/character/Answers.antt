@@ -5,8 +5,8 @@ use Rattle.panel.specs.Panels.{outcome_for}
 use Rattle.panel.proofs.Doing.{does, comes, refuses, taken_character, refused_character}
 use Rattle.panel.proofs.state.Panel.character.Goals as goal
 
-pub returns-then-marks-gt-MOST_MARKS-clause-does : goal.returns-then-marks-gt-MOST_MARKS-clause-does
-returns-then-marks-gt-MOST_MARKS-clause-does g c =
+pub returns-then-marks-gt-MAX_MARKS-clause-does : goal.returns-then-marks-gt-MAX_MARKS-clause-does
+returns-then-marks-gt-MAX_MARKS-clause-does g c =
     let p = c.args.self.now in
     let ch : Character = record { byte = c.args.byte; marks = c.args.marks } in
     refuses g.R.Rack.records p (character ch) 109 (λ t. refused_character p.supply (g.R.Rack.records p.rack) t ch (omega arith))

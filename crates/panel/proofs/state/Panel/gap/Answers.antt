@@ -2,11 +2,11 @@ use Rattle.std.proofs.Common.{length, Ok, arith, rules}
 use Rattle.runs.specs.Traces.{gap}
 use Rattle.panel.specs.Panels.{served_in, gap_result_of}
 use Rattle.panel.proofs.Doing.{refuses}
-use Rattle.panel.proofs.Results.{gap_result, gap_bound, buffer_is, gap_does, short_gap}
+use Rattle.panel.proofs.Results.{gap_result, gap_bound, buffer_is, gap_does, short_gap, silent_none}
 use Rattle.panel.proofs.state.Panel.gap.Goals as goal
 
-pub returns-then-out-lt-MOST_ANSWER-clause-does : goal.returns-then-out-lt-MOST_ANSWER-clause-does
-returns-then-out-lt-MOST_ANSWER-clause-does g c =
+pub returns-then-out-lt-MAX_ANSWER-clause-does : goal.returns-then-out-lt-MAX_ANSWER-clause-does
+returns-then-out-lt-MAX_ANSWER-clause-does g c =
     let p = c.args.self.now in
     let n = length c.args.out.now in
     refuses g.R.Rack.records p (gap n) 102 (λ t. short_gap p.supply (g.R.Rack.records p.rack) t n (omega arith))
@@ -22,5 +22,6 @@ returns g c =
       does = gap_does g.R.Rack.records p _ (length out) (gap_result_of (Ok e.result) e.new.out) (omega arith) c.new-self.ensures e.ensures.supply e.ensures.records y;
       buffer = buffer_is (gap_result_of (Ok e.result) e.new.out) a out e.new.out y e.ensures.buffer;
       bound = gap_bound out e.new.out e.result a e.ensures.answer e.ensures.buffer (omega arith);
+      idle = λ s. e.ensures.idle (silent_none e.result e.new.out s);
       same = search rules;
     }

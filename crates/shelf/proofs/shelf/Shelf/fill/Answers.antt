@@ -3,7 +3,7 @@ use Rattle.std.proofs.lemmas.Result.{err_from_is_err_and}
 use Rattle.std.proofs.lemmas.Bool.Decides.{nat_tests}
 use Rattle.std.proofs.lemmas.Grind.{common_steps}
 use Rattle.rack.specs.Files.{first_bad, rows_of}
-use Rattle.shelf.proofs.FileRows.{none_more, found, lawful_more}
+use Rattle.shelf.proofs.FileRows.{none_more, found, none_told, faultless_more, lawful_more}
 use Rattle.shelf.proofs.shelf.Shelf.fill.Goals as goal
 
 pub returns-in_err-check_record-clause-answer : goal.returns-in_err-check_record-clause-answer
@@ -20,5 +20,6 @@ loop-number-preserved c =
     let i = c.loop-number.number in
     record {
       faultless = none_more rows i (omega arith) c.loop-number.invariant.faultless c.in_ok-check_record.ensures.fault;
+      rows = faultless_more rows i (omega arith) c.loop-number.invariant.rows (none_told i _ c.in_ok-check_record.ensures.fault);
       lawful = lawful_more rows i (omega arith) c.loop-number.invariant.lawful c.in_ok-check_record.ensures.lawful;
     }

@@ -3,7 +3,7 @@ use Rattle.std.proofs.ByRecursion.{All-set}
 use Rattle.record.specs.Lawful.{Lawful}
 use Rattle.rack.specs.Meaning.{channel_of}
 use Rattle.rack.proofs.Meaning.{accepted_at, channel_lawful}
-use Rattle.shelf.specs.Rows.{records_in}
+use Rattle.shelf.specs.Rows.{Faultless, records_in}
 use Rattle.shelf.proofs.Rows.{refill_set, set_row}
 use Rattle.shelf.proofs.shelf_rack.ShelfRack.write.Goals as goal
 
@@ -17,6 +17,7 @@ invariant_of-self c =
     let lawful : Lawful r = c.apply.ensures.lawful (channel_lawful records c.args.channel c.record_at-record.result s.lawful found) in
     let after = refill_set s.rows.items c.deref_mut.result.now c.args.channel row c.deref_mut.ensures.value in
     record {
+      faultless = rw after (All-set Faultless s.rows.items c.args.channel row (c.encode.ensures.back lawful).faultless s.faultless);
       some = rw (after, length-set s.rows.items c.args.channel row) s.some;
       lawful = rw (after, set_row s.rows.items c.args.channel row r (c.encode.ensures.back lawful).same) (All-set Lawful records c.args.channel r lawful s.lawful);
     }
