@@ -21,6 +21,19 @@ def opened(**more):
     return worked(**{"flags": "02", "limits": "64AB", **more})
 
 
+def requests_by_hand():
+    """Which requests commands with their data are, worked by hand."""
+    for asked, wanted in (
+        ("11 3460EDC72CF4", "tag 3460EDC72CF4"),
+        ("11 3460EDC72C", "bare 11"),
+        ("17 -", "text 17 -"),
+        ("236 39", "number 236 39"),
+        ("38 00", "bare 38"),
+    ):
+        line = f"request {asked}"
+        expect(line, answer(line), wanted)
+
+
 def by_hand():
     """Answers worked by hand."""
     shut, held = worked(), opened()
@@ -28,11 +41,6 @@ def by_hand():
     bad = worked(flags="04")
     header = "1500 102400000"
     for line, wanted in (
-        ("request 11 3460EDC72CF4", "tag 3460EDC72CF4"),
-        ("request 11 3460EDC72C", "bare 11"),
-        ("request 17 -", "text 17 -"),
-        ("request 236 39", "number 236 39"),
-        ("request 38 00", "bare 38"),
         (f"respond {shut} 0 0 FFFF0281100093 - 64",
          f"answered FFFF06811005000000000795 {shut}"),
         (f"respond {shut} 0 0 FFFF0281100092 - 64", f"answered FFFF0681100288001D {shut}"),
@@ -136,5 +144,6 @@ def table_covers():
 
 
 def run():
+    requests_by_hand()
     by_hand()
     table_covers()
