@@ -4,11 +4,11 @@
 use anyhow::Context;
 use recording::Format;
 use setup::MAX_SUPPLY;
-use shelf::RACK_FILE;
+use shelf::rack_file;
 use std::fs;
 
 fn main(rt: HostRuntime) -> anyhow::Result<()> {
-    let file = fs::read(&rt, RACK_FILE).context(RACK_FILE)?;
+    let file = fs::read(&rt, rack_file()).context(rack_file())?;
     // Under the largest supply fifteen channels always fit.
     player::run(
         rt.alloc(),

@@ -10,10 +10,7 @@ use rack::MAX_CHANNELS;
 use record::RECORD_LENGTH;
 
 // The most records of a shelf.
-pub const MAX_RECORDS: usize = MAX_CHANNELS as usize;
-
-// The record file of a program that has a shelf, in the folder that it is run in.
-pub const RACK_FILE: &str = "rack.rec";
+pub(crate) const MAX_RECORDS: usize = MAX_CHANNELS as usize;
 
 // A shelf: 1 to 15 records, held as bytes.
 #[derive(Drop)]

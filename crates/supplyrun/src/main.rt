@@ -4,12 +4,12 @@
 
 use anyhow::{Context, anyhow, ensure};
 use recording::Format;
-use shelf::RACK_FILE;
+use shelf::rack_file;
 use std::{env, fs};
 
 fn main(rt: HostRuntime) -> anyhow::Result<()> {
     let supply = supply(&rt)?;
-    let file = fs::read(&rt, RACK_FILE).context(RACK_FILE)?;
+    let file = fs::read(&rt, rack_file()).context(rack_file())?;
     player::run(
         rt.alloc(),
         Format::Supplyrun,

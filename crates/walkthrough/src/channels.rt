@@ -2,7 +2,7 @@ use anyhow::Context;
 use digits::Letters;
 use rack::Rack;
 use record::{Fields, Record, value_of};
-use shelf::{RACK_FILE, Shelf};
+use shelf::{Shelf, rack_file};
 use std::{fs, io};
 
 // What the header can give, in mL/min.
@@ -10,7 +10,7 @@ pub(crate) const SUPPLY: u32 = 600_000;
 
 // The panel's rack, from its records.
 pub(crate) fn load(rt: &HostRuntime) -> anyhow::Result<Shelf> {
-    let file = fs::read(rt, RACK_FILE)?;
+    let file = fs::read(rt, rack_file())?;
     let mut shelf = Shelf::blank();
     shelf.fill(file.as_slice())?;
     Ok(shelf)
@@ -19,7 +19,10 @@ pub(crate) fn load(rt: &HostRuntime) -> anyhow::Result<Shelf> {
 // Prints the channels of a rack and what they draw together.
 pub(crate) fn show_rack<R: Rack>(rt: &HostRuntime, rack: &R) -> anyhow::Result<()> {
     let count = rack.count();
-    println!(rt; "\n5. The panel's rack, {count} channels from {RACK_FILE}:")?;
+    println!(rt;
+        "\n5. The panel's rack, {count} channels from {}:",
+        rack_file()
+    )?;
     for channel in 0..count {
         let record = serving::record_of(rack, channel).context("a channel that is not there")?;
         show_tag(rt, channel, &record)?;

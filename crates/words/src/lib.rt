@@ -15,6 +15,8 @@ use std::fmt;
 // What stands in a buffer before a call writes into it.
 pub const UNTOUCHED: u8 = 0xA5;
 
+const _: () = prove!(UNTOUCHED == 0xA5);
+
 // Why a word was not read. Not a `HexFault`: a word that is no pattern is told apart, and the words of a message are others.
 #[derive(Clone, Copy, PartialEq, Eq, Debug)]
 pub enum WordFault {
