@@ -1,7 +1,7 @@
 -- The bytes of a recording, from the reader through the block to its events.
 use Rattle.std.proofs.Common.{◌≡◌, ◌==◌, nat_lt, suc, true, false, ℕ, ◌+◌, ◌*◌, ◌/◌, ◌<◌, ◌≤◌, List, [], ◌∷◌, ◌++◌, take, drop, length, Option, Some, None, sym, refl, ap, ◌∙◌, append_assoc, append-nil, arith}
 use Rattle.std.proofs.Math.Seq.{take-append-add}
-use Rattle.std.proofs.lemmas.Bool.{ltb-false}
+use Rattle.std.proofs.lemmas.Bool.{ltb-true, ltb-false}
 use Rattle.std.proofs.lemmas.List.{length-take-le, length-drop, length-append, take-append-le, drop-append-le, drop-drop}
 use Rattle.std.specs.Io.KnownBytes.{Consumes, IsAtEnd}
 use Rattle.recording.specs.Lines.{refusal_line}
@@ -53,6 +53,10 @@ read_behind block buf post start stop came h l m =
     let both = take-append-add (take stop block) (buf ++ post) came in
     let got : take (stop + came) (take stop block ++ (buf ++ post)) ≡ take stop block ++ take came buf = rw long at both ∙ ap (λ l. take stop block ++ l) (take-append-le came buf post m) in
     ap (drop start) got ∙ drop-append-le start (take stop block) (take came buf) (omega (arith, long))
+
+-- so there are more of them, if a byte came
+pub more_unread : (unread unread' buf : List ℕ) (came : ℕ) → came ≤ length buf → unread' ≡ unread ++ take came buf → nat_lt 0 came ≡ true → length unread < length unread'
+more_unread unread unread' buf came m e more = omega (arith, ltb-true 0 came more, ap length e, length-append unread (take came buf), length-take-le came buf m)
 
 -- what the reader gave then stands there, and the whole is the same
 pub read_more : {X : Type 0} (of : List ℕ → X) (x : X) (unread unread' left bytes left' : List ℕ) → left ≡ bytes ++ left' → unread' ≡ unread ++ bytes → x ≡ of (unread ++ left) → x ≡ of (unread' ++ left')

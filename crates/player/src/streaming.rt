@@ -1,4 +1,4 @@
-ghost use Rattle.std.specs.Prelude.{◌≡◌, ◌<◌, ℕ, false, Some, None, List, ◌++◌, length, IfOk, OnOk};
+ghost use Rattle.std.specs.Prelude.{◌≡◌, ◌<◌, ℕ, true, false, Some, None, List, ◌++◌, length, IfOk, OnOk};
 ghost use Rattle.std.specs.Option.{option_to_list};
 ghost use Rattle.calls.specs.Views.{result_of};
 ghost use Rattle.recording.specs.Lines.{line_of};
@@ -32,8 +32,8 @@ impl<R: Read + Drop, W: Write + Drop> EventStream<R, W> {
     pub fn next_event(&mut self) -> Result<Option<[u8; EVENT_LENGTH]>, Interruption>
         ensures { OfStream R.Read.remaining W.Write.contents self.old (λ events rest out. IfOk result (λ o. Next R.Read.remaining W.Write.contents self.new events rest out o)) }
     {
-        // Nothing says that an input ends, so the turns are counted.
-        for _ in 0..u64::MAX {
+        // Each read that does not end the input brings a byte more, so that no more of them are wanted.
+        for _ in 0..=EVENT_LENGTH {
             if let Some(event) = self.whole_event() {
                 return Ok(Some(event));
             }
@@ -41,7 +41,7 @@ impl<R: Read + Drop, W: Write + Drop> EventStream<R, W> {
                 return Ok(None);
             }
         }
-        Err(Interruption::Endless)
+        unreachable!()
     }
 
     // The bytes that came and were not taken yet.
@@ -57,6 +57,7 @@ impl<R: Read + Drop, W: Write + Drop> EventStream<R, W> {
     fn whole_event(&mut self) -> Option<[u8; EVENT_LENGTH]>
         ensures next { OfStream R.Read.remaining W.Write.contents self.old (λ events rest out. (later : List (List ℕ)) × (events ≡ option_to_list result ++ later) × Streams R.Read.remaining W.Write.contents self.new later rest out) }
         ensures short { result ≡ None → length (unread_of self.new) < 12 }
+        ensures kept { result ≡ None → self.new ≡ self.old }
     {
         let event = *self.unread().first_chunk()?;
         self.unread.start += EVENT_LENGTH;
@@ -66,7 +67,8 @@ impl<R: Read + Drop, W: Write + Drop> EventStream<R, W> {
     // Writes the lines out and reads on, where no whole event is left: whether bytes came. Seldom, and so not inlined.
     #[inline(never)]
     fn read_on(&mut self) -> Result<bool, Interruption>
-        ensures { length (unread_of self.old) < 12 → OfStream R.Read.remaining W.Write.contents self.old (λ events rest out. IfOk result (λ more. Streams R.Read.remaining W.Write.contents self.new events rest out × (more ≡ false → AtEnd R.Read.remaining W.Write.contents self.new events rest))) }
+        ensures grows { length (unread_of self.old) < 12 → IfOk result (λ more. more ≡ true → length (unread_of self.old) < length (unread_of self.new)) }
+        ensures read { length (unread_of self.old) < 12 → OfStream R.Read.remaining W.Write.contents self.old (λ events rest out. IfOk result (λ more. Streams R.Read.remaining W.Write.contents self.new events rest out × (more ≡ false → AtEnd R.Read.remaining W.Write.contents self.new events rest))) }
     {
         self.write_out()?;
         self.make_room();

@@ -2,10 +2,10 @@ use Rattle.std.proofs.Common.{◌≡◌, ◌<◌, ℕ, zero, List, ◌-◌, ◌+
 use Rattle.recording.specs.Recordings.{events_of, rest_of}
 use Rattle.player.specs.Streams.{unread_of}
 use Rattle.player.proofs.stream.EventStream.read_on.Goals as goal
-use Rattle.player.proofs.Bytes.{consumed, at_end, none_came, read_behind, read_more, none_left}
+use Rattle.player.proofs.Bytes.{consumed, at_end, none_came, read_behind, more_unread, read_more, none_left}
 
-pub returns : goal.returns
-returns g c = λ short events rest out s.
+pub returns-clause-read : goal.returns-clause-read
+returns-clause-read g c = λ short events rest out s.
     let m = (c.in_ok-write_out.ensures.written events rest out s).0 in
     let old = c.write_out.new.self in
     let ready = c.make_room.new.self in
@@ -24,3 +24,13 @@ returns g c = λ short events rest out s.
           let f = none_left _ k.0 (omega (arith, few, ap length stays)) over in
           record { none = e ∙ f.0; left_over = r ∙ f.1 },
     )
+
+pub returns-clause-grows : goal.returns-clause-grows
+returns-clause-grows g c = λ short more.
+    let old = c.write_out.new.self in
+    let ready = c.make_room.new.self in
+    let buf : List ℕ = c.read.new.buf in
+    let few : length (unread_of old) < 12 = omega (arith, short, ap length c.write_out.ensures.unread) in
+    let behind = read_behind ready.block buf (drop (65532 - ready.unread.end) (drop ready.unread.end ready.block)) ready.unread.start ready.unread.end c.in_ok-came.came ready.ordered (omega (arith, ready.within, ready.size)) c.in_ok-came.ensures.bound.0
+    ∙ ap (λ l. l ++ take c.in_ok-came.came buf) (c.make_room.ensures.unread few ∙ c.write_out.ensures.unread) in
+    more_unread (unread_of c.args.self.now) _ buf c.in_ok-came.came c.in_ok-came.ensures.bound.0 behind more
