@@ -1,6 +1,5 @@
 -- What is done with a panel between the calls of a run.
-use Rattle.std.proofs.Common.{◌≡◌, ℕ, ◌≤◌, List, [], ◌∷◌, ◌++◌, length, drop, Option, Some, None, Result, Ok, Err, OnOk, IfOk, MatchOption, subst, sym, refl, ap, ◌∙◌, subst₂, append-nil, arith}
-use Rattle.std.specs.Bool.{⊤}
+use Rattle.std.proofs.Common.{◌≡◌, ℕ, suc, ◌+◌, ◌≤◌, List, [], ◌∷◌, ◌++◌, length, drop, Option, Some, None, Result, Ok, Err, OnOk, MatchResult, MatchOption, subst, sym, refl, ap, ◌∙◌, subst₂, append-nil, arith}
 use Rattle.std.specs.Option.{unwrap_or}
 use Rattle.std.proofs.lemmas.Bool.{le-leb}
 use Rattle.std.proofs.lemmas.List.{drop_all}
@@ -64,9 +63,9 @@ set_up s supply p p' stands same taken begun =
 
 module _ {R W : Type 0} (remaining : R → Option (List ℕ)) (contents : W → Option (List ℕ)) (buffer buffer' : List ℕ) (enough : 64 ≤ length buffer) (p p' : Player R W) (panel panel' : Panel Shelf) where
   -- a run that goes on
-  pub worked_on : (s : State) → Stands panel s → WorkedOn records_of panel panel' (Names remaining contents) (Hears remaining contents) (Ends remaining contents) p p' buffer buffer' → (total : List ℕ)
-      → Going remaining contents p (lines_of p.format s) total → (s' : State) × Stands panel' s' × Paused remaining contents p' s' total
-  worked_on s stands w total going =
+  pub worked_on : (s : State) → Stands panel s → WorkedOn records_of panel panel' (Names remaining contents) (Hears remaining contents) (Ends remaining contents) p p' buffer buffer' → (taken most : ℕ) (total : List ℕ)
+      → Going remaining contents p (lines_of p.format s) taken most total → (s' : State) × Stands panel' s' × (taken' : ℕ) × (taken ≤ taken') × Paused remaining contents p' s' (suc taken') most total
+  worked_on s stands w taken most total going =
       let u = w.underway s.supply stands.before stands.trace stands.underway in
       let capacity = capacity_of s.supply in
       let apart = run_split channel capacity stands.trace w.trace u.ran in
@@ -76,14 +75,22 @@ module _ {R W : Type 0} (remaining : R → Option (List ℕ)) (contents : W → 
       let stands' : Stands panel' s' = record { before = stands.before; trace = stands.trace ++ w.trace; underway = u; records_are = refl; unended_is = refl } in (
         s',
         stands',
-        driven remaining contents (length buffer) s.supply enough p p' s.records (records_of panel'.rack) s.unended u.line w.trace w.driven run total going,
+        taken + length w.trace,
+        omega arith,
+        driven remaining contents (length buffer) s.supply enough p p' s.records (records_of panel'.rack) s.unended u.line w.trace w.driven run taken most total going,
       )
 
 -- what a player waits for that has paused, and was not interrupted
-pub taken_pause : (paused : Option (Result (Option Pause) Interruption)) (o : Option Pause) (e : Interruption) (waits : Option Pause → Type 0) → ◌≡◌ {A = Result (Option Pause) Interruption} (Ok o) (unwrap_or paused (Err e)) → MatchOption paused ⊤ (λ r. IfOk r waits) → waits o
-taken_pause None o e waits is h = cc
-taken_pause (Some (Ok v)) o e waits is h = let k : v ≡ o = cc in subst waits k h
-taken_pause (Some (Err i)) o e waits is h = cc
+pub taken_pause : (paused : Option (Result (Option Pause) Interruption)) (o : Option Pause) (e : Interruption) (many : Type 0) (waits : Option Pause → Type 0) (can : Interruption → Type 0) → ◌≡◌ {A = Result (Option Pause) Interruption} (Ok o) (unwrap_or paused (Err e)) → MatchOption paused many (λ r. MatchResult r waits can) → waits o
+taken_pause None o e many waits can is h = cc
+taken_pause (Some (Ok v)) o e many waits can is h = let k : v ≡ o = cc in subst waits k h
+taken_pause (Some (Err i)) o e many waits can is h = cc
+
+-- what interrupted a player, or that it did not pause
+pub taken_interruption : (paused : Option (Result (Option Pause) Interruption)) (i e : Interruption) (many : Type 0) (waits : Option Pause → Type 0) (can : Interruption → Type 0) → (many → can e) → ◌≡◌ {A = Result (Option Pause) Interruption} (Err i) (unwrap_or paused (Err e)) → MatchOption paused many (λ r. MatchResult r waits can) → can i
+taken_interruption None i e many waits can endless is h = let k : e ≡ i = cc in subst can k (endless h)
+taken_interruption (Some (Ok v)) i e many waits can endless is h = cc
+taken_interruption (Some (Err j)) i e many waits can endless is h = let k : j ≡ i = cc in subst can k h
 
 -- the line of a fault that a recording is not played by
 pub fault_line : (f : Format) (supply : ℕ) (fault : PlayFault) (records : List Record) (input : List ℕ) → output_for f supply (Some (fault_seen fault)) records input ≡ refusal_line (number_of (play_refusal fault))

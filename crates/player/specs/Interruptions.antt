@@ -1,5 +1,5 @@
--- How an interruption prints.
-use Rattle.std.specs.Prelude.{ℕ, List, codes, Some, None, Option}
+-- How an interruption prints, and which can come about.
+use Rattle.std.specs.Prelude.{ℕ, ◌-◌, ◌^◌, ◌≤◌, List, codes, Some, None, Option, ⊤}
 use Rattle.player.specs.declared.stream.Interruption.{Interruption}
 use Rattle.player.specs.declared.stream.Interruption.TheVariants.{Memory, Stream, Endless}
 
@@ -8,3 +8,10 @@ abbrev pub words_of : Interruption → Option (List ℕ)
 words_of Endless = Some (codes "the recording has more events than can be counted")
 words_of (Memory e) = None
 words_of (Stream kind) = None
+
+-- What can interrupt a recording of at most so many events: their number only where they may be 2 ^ 64 - 1 or more, so that of 0
+-- events it never does.
+abbrev pub CanInterrupt : ℕ → Interruption → Type 0
+CanInterrupt most Endless = 2 ^ 64 - 1 ≤ most
+CanInterrupt most (Memory e) = ⊤
+CanInterrupt most (Stream kind) = ⊤

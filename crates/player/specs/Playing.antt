@@ -60,10 +60,10 @@ pub record Stands (panel : Panel Shelf) (s : State) : Type 0 where
   pub unended_is : s.unended ≡ underway.line
 
 -- What a recording waited for is done: the panel is in some state, on which the events to come print the rest.
-pub record Attended {R W : Type 0} (remaining : R → Option (List ℕ)) (contents : W → Option (List ℕ)) (p : Player R W) (panel : Panel Shelf) (total : List ℕ) : Type 0 where
+pub record Attended {R W : Type 0} (remaining : R → Option (List ℕ)) (contents : W → Option (List ℕ)) (p : Player R W) (panel : Panel Shelf) (taken most : ℕ) (total : List ℕ) : Type 0 where
   pub state : State
   pub stands : Stands panel state
-  pub prints : Prints remaining contents p.stream (lines_of p.format state) total
+  pub prints : Prints remaining contents p.stream (lines_of p.format state) taken most total
 
 -- what is printed where a recording is not played by a fault, or else is: the line of the fault; or the lines of the events, and
 -- that of the rest

@@ -1,6 +1,7 @@
-ghost use Rattle.std.specs.Prelude.{◌≡◌, ℕ, Ok, Some, None, List, MatchOption, IfOk};
+ghost use Rattle.std.specs.Prelude.{◌≡◌, ℕ, suc, Ok, Some, None, List, MatchOption, MatchResult};
 ghost use Rattle.recording.specs.Events.{asked_of};
 ghost use Rattle.recording.specs.Recordings.{events_of, rest_of};
+ghost use Rattle.player.specs.Interruptions.{CanInterrupt};
 ghost use Rattle.player.specs.Outputs.{State, lines_of, lines_after};
 ghost use Rattle.player.specs.Streams.{Streams};
 ghost use Rattle.player.specs.Players.{Prints, AllPrinted, Names, Hears, Ends};
@@ -43,7 +44,7 @@ fn next_asked<R: Read + Drop, W: Write + Drop>(
     stream: &mut EventStream<R, W>,
     format: Format,
 ) -> Result<Option<Event>, Interruption>
-    ensures { (s : State) (total : List ℕ) → Prints R.Read.remaining W.Write.contents stream.old (lines_of format s) total → IfOk result (λ o. MatchOption o (AllPrinted R.Read.remaining W.Write.contents stream.new total) (λ e. Prints R.Read.remaining W.Write.contents stream.new (lines_after format s (Ok (asked_of e))) total)) }
+    ensures { (s : State) (taken most : ℕ) (total : List ℕ) → Prints R.Read.remaining W.Write.contents stream.old (lines_of format s) taken most total → MatchResult result (λ o. MatchOption o (AllPrinted R.Read.remaining W.Write.contents stream.new total) (λ e. Prints R.Read.remaining W.Write.contents stream.new (lines_after format s (Ok (asked_of e))) (suc taken) most total)) (CanInterrupt most) }
 {
     for _ in 0..u64::MAX {
         let Some(event) = stream.next_event()? else {

@@ -1,9 +1,10 @@
-ghost use Rattle.std.specs.Prelude.{◌≡◌, ℕ, Ok, Err, Some, None, List, ◌++◌, IfOk, OnOk};
+ghost use Rattle.std.specs.Prelude.{◌≡◌, ℕ, Ok, Err, Some, None, List, ◌++◌, IfOk, IfErr, OnOk};
 ghost use Rattle.std.specs.Option.{unwrap_or};
 ghost use Rattle.recording.specs.Events.{pauses};
 ghost use Rattle.recording.specs.declared.events.Pause.TheVariants.{Look, SetUp};
 ghost use Rattle.recording.specs.Lines.{refusal_line};
 ghost use Rattle.refusals.specs.Refusals.{number_of};
+ghost use Rattle.player.specs.Interruptions.{CanInterrupt};
 ghost use Rattle.player.specs.Outputs.{State, lines_of, lines_after};
 ghost use Rattle.player.specs.Streams.{OfStream};
 ghost use Rattle.player.specs.Players.{Prints, AllPrinted};
@@ -18,6 +19,7 @@ use record::RECORD_LENGTH;
 use recording::Pause;
 use refusals::Refusal;
 use shelf::Shelf;
+use std::alloc::AllocError;
 use std::io::{Read, Write};
 
 impl<R: Read + Drop, W: Write + Drop> Player<R, W> {
@@ -36,8 +38,8 @@ impl<R: Read + Drop, W: Write + Drop> Player<R, W> {
         &mut self,
         panel: &mut Panel<Shelf>,
         pause: Pause,
-    ) -> Result<(), Interruption>
-        ensures attended { (s : State) (total : List ℕ) → Stands panel.old s → Prints R.Read.remaining W.Write.contents self.old.stream (lines_after self.old.format s (Ok (pauses pause))) total → OnOk result (Attended R.Read.remaining W.Write.contents self.new panel.new total) }
+    ) -> Result<(), AllocError>
+        ensures attended { (s : State) (taken most : ℕ) (total : List ℕ) → Stands panel.old s → Prints R.Read.remaining W.Write.contents self.old.stream (lines_after self.old.format s (Ok (pauses pause))) taken most total → OnOk result (Attended R.Read.remaining W.Write.contents self.new panel.new taken most total) }
         ensures paused { self.new.paused ≡ self.old.paused }
     {
         match pause {
@@ -46,8 +48,8 @@ impl<R: Read + Drop, W: Write + Drop> Player<R, W> {
         }
     }
 
-    fn look(&mut self, panel: &Panel<Shelf>, channel: u8) -> Result<(), Interruption>
-        ensures looked { (s : State) (total : List ℕ) → Stands panel.now s → Prints R.Read.remaining W.Write.contents self.old.stream (lines_after self.old.format s (Ok (pauses (Look channel)))) total → OnOk result (Prints R.Read.remaining W.Write.contents self.new.stream (lines_of self.new.format s) total) }
+    fn look(&mut self, panel: &Panel<Shelf>, channel: u8) -> Result<(), AllocError>
+        ensures looked { (s : State) (taken most : ℕ) (total : List ℕ) → Stands panel.now s → Prints R.Read.remaining W.Write.contents self.old.stream (lines_after self.old.format s (Ok (pauses (Look channel)))) taken most total → OnOk result (Prints R.Read.remaining W.Write.contents self.new.stream (lines_of self.new.format s) taken most total) }
         ensures paused { self.new.paused ≡ self.old.paused }
     {
         let mut bytes = [0; RECORD_LENGTH];
@@ -63,8 +65,8 @@ impl<R: Read + Drop, W: Write + Drop> Player<R, W> {
         Ok(())
     }
 
-    fn set_up(&mut self, panel: &mut Panel<Shelf>, supply: u32) -> Result<(), Interruption>
-        ensures attended { (s : State) (total : List ℕ) → Stands panel.old s → Prints R.Read.remaining W.Write.contents self.old.stream (lines_after self.old.format s (Ok (pauses (SetUp supply)))) total → OnOk result (Attended R.Read.remaining W.Write.contents self.new panel.new total) }
+    fn set_up(&mut self, panel: &mut Panel<Shelf>, supply: u32) -> Result<(), AllocError>
+        ensures attended { (s : State) (taken most : ℕ) (total : List ℕ) → Stands panel.old s → Prints R.Read.remaining W.Write.contents self.old.stream (lines_after self.old.format s (Ok (pauses (SetUp supply)))) taken most total → OnOk result (Attended R.Read.remaining W.Write.contents self.new panel.new taken most total) }
         ensures paused { self.new.paused ≡ self.old.paused }
     {
         match panel.set_up(supply) {
@@ -76,14 +78,16 @@ impl<R: Read + Drop, W: Write + Drop> Player<R, W> {
 
     // Prints the line of what is left of an event, once all others are printed, and gives the writer back.
     pub fn finish(self) -> Result<W, Interruption>
-        ensures { (total : List ℕ) → AllPrinted R.Read.remaining W.Write.contents self.stream total → IfOk result (λ w. W.Write.contents w ≡ Some total) }
+        ensures printed { (total : List ℕ) → AllPrinted R.Read.remaining W.Write.contents self.stream total → IfOk result (λ w. W.Write.contents w ≡ Some total) }
+        ensures interrupted { IfErr result (CanInterrupt 0) }
     {
         self.stream.finish()
     }
 
     // Prints the line of a refusal by which no run began, and gives the writer back.
     pub fn refuse(mut self, refusal: Refusal) -> Result<W, Interruption>
-        ensures { OfStream R.Read.remaining W.Write.contents self.stream (λ events rest out. IfOk result (λ w. W.Write.contents w ≡ Some (out ++ refusal_line (number_of refusal)))) }
+        ensures printed { OfStream R.Read.remaining W.Write.contents self.stream (λ events rest out. IfOk result (λ w. W.Write.contents w ≡ Some (out ++ refusal_line (number_of refusal)))) }
+        ensures interrupted { IfErr result (CanInterrupt 0) }
     {
         self.stream.tell(Err(refusal))?;
         self.stream.close()

@@ -1,8 +1,10 @@
-ghost use Rattle.std.specs.Prelude.{◌≡◌, ℕ, false, List, ◌++◌, Some, is_ok, IfOk};
+ghost use Rattle.std.specs.Prelude.{◌≡◌, ℕ, false, List, ◌++◌, length, Some, is_ok, IfOk, MatchResult};
 ghost use Rattle.std.specs.Option.{option_map};
 ghost use Rattle.std.specs.Result.{result_err};
 ghost use Rattle.rack.specs.Files.{file_answer, file_records};
 ghost use Rattle.setup.specs.SetUps.{set_up_refusal};
+ghost use Rattle.recording.specs.Recordings.{events_of};
+ghost use Rattle.player.specs.Interruptions.{CanInterrupt};
 ghost use Rattle.player.specs.Playing.{play_refusal, fault_seen, play_fault, Played, output_of};
 ghost use Rattle.player.specs.declared.playing.PlayFault.TheVariants.{File, SetUp};
 
@@ -77,7 +79,8 @@ pub fn play<D: Driver>(
 }
 
 // Plays a recording whole, and gives the writer back: it prints the lines of the events, or the one line of a refused record file
-// or set-up. However the reader cuts the recording into blocks, the lines are those of the whole.
+// or set-up. However the reader cuts the recording into blocks, the lines are those of the whole. It is never told as endless if it
+// has fewer than 2^64 - 1 events.
 pub fn run<R: Read + Drop, W: Write + Drop>(
     heap: Global,
     format: Format,
@@ -86,7 +89,7 @@ pub fn run<R: Read + Drop, W: Write + Drop>(
     input: R,
     output: W,
 ) -> Result<W, Interruption>
-    ensures { (bytes out : List ℕ) → R.Read.remaining input ≡ Some bytes → W.Write.contents output ≡ Some out → IfOk result (λ w. W.Write.contents w ≡ Some (out ++ output_of format supply file.now bytes)) }
+    ensures { (bytes out : List ℕ) → R.Read.remaining input ≡ Some bytes → W.Write.contents output ≡ Some out → MatchResult result (λ w. W.Write.contents w ≡ Some (out ++ output_of format supply file.now bytes)) (CanInterrupt (length (events_of bytes))) }
 {
     let mut player = Player::new(heap, format, input, output);
     let mut buffer = [0; MAX_ROOM];

@@ -1,7 +1,8 @@
-ghost use Rattle.std.specs.Prelude.{◌≡◌, ◌<◌, ℕ, true, false, Some, None, List, ◌++◌, length, IfOk, OnOk};
+ghost use Rattle.std.specs.Prelude.{◌≡◌, ◌<◌, ℕ, true, false, Some, None, List, ◌++◌, length, IfOk, IfErr, OnOk};
 ghost use Rattle.std.specs.Option.{option_to_list};
 ghost use Rattle.calls.specs.Views.{result_of};
 ghost use Rattle.recording.specs.Lines.{line_of};
+ghost use Rattle.player.specs.Interruptions.{CanInterrupt};
 ghost use Rattle.player.specs.Outputs.{rest_line};
 ghost use Rattle.recording.specs.Recordings.{events_of, rest_of};
 ghost use Rattle.player.specs.Streams.{unread_of, Streams, OfStream, AtEnd, Next};
@@ -30,7 +31,8 @@ impl<R: Read + Drop, W: Write + Drop> EventStream<R, W> {
     // The next event, if there is one more.
     #[inline(always)]
     pub fn next_event(&mut self) -> Result<Option<[u8; EVENT_LENGTH]>, Interruption>
-        ensures { OfStream R.Read.remaining W.Write.contents self.old (λ events rest out. IfOk result (λ o. Next R.Read.remaining W.Write.contents self.new events rest out o)) }
+        ensures next { OfStream R.Read.remaining W.Write.contents self.old (λ events rest out. IfOk result (λ o. Next R.Read.remaining W.Write.contents self.new events rest out o)) }
+        ensures interrupted { IfErr result (CanInterrupt 0) }
     {
         // Each read that does not end the input brings a byte more, so that no more of them are wanted.
         for _ in 0..=EVENT_LENGTH {
@@ -69,6 +71,7 @@ impl<R: Read + Drop, W: Write + Drop> EventStream<R, W> {
     fn read_on(&mut self) -> Result<bool, Interruption>
         ensures grows { length (unread_of self.old) < 12 → IfOk result (λ more. more ≡ true → length (unread_of self.old) < length (unread_of self.new)) }
         ensures read { length (unread_of self.old) < 12 → OfStream R.Read.remaining W.Write.contents self.old (λ events rest out. IfOk result (λ more. Streams R.Read.remaining W.Write.contents self.new events rest out × (more ≡ false → AtEnd R.Read.remaining W.Write.contents self.new events rest))) }
+        ensures interrupted { IfErr result (CanInterrupt 0) }
     {
         self.write_out()?;
         self.make_room();
@@ -118,7 +121,8 @@ impl<R: Read + Drop, W: Write + Drop> EventStream<R, W> {
 
     // Writes out what waits, and gives the writer back.
     pub fn close(mut self) -> Result<W, Interruption>
-        ensures { OfStream R.Read.remaining W.Write.contents self (λ events rest out. IfOk result (λ w. W.Write.contents w ≡ Some out)) }
+        ensures written { OfStream R.Read.remaining W.Write.contents self (λ events rest out. IfOk result (λ w. W.Write.contents w ≡ Some out)) }
+        ensures interrupted { IfErr result (CanInterrupt 0) }
     {
         self.write_out()?;
         Ok(self.output)
@@ -126,7 +130,8 @@ impl<R: Read + Drop, W: Write + Drop> EventStream<R, W> {
 
     // Closes a stream that is at its end: what is left of an event then counts as a file of a wrong length.
     pub fn finish(mut self) -> Result<W, Interruption>
-        ensures { OfStream R.Read.remaining W.Write.contents self (λ events rest out. AtEnd R.Read.remaining W.Write.contents self events rest → IfOk result (λ w. W.Write.contents w ≡ Some (out ++ rest_line rest))) }
+        ensures written { OfStream R.Read.remaining W.Write.contents self (λ events rest out. AtEnd R.Read.remaining W.Write.contents self events rest → IfOk result (λ w. W.Write.contents w ≡ Some (out ++ rest_line rest))) }
+        ensures interrupted { IfErr result (CanInterrupt 0) }
     {
         if !self.unread().is_empty() {
             self.tell(Err(Refusal::NumberOfRecords))?;

@@ -2,11 +2,11 @@ use Rattle.std.proofs.Common.{◌<◌, length, ap, refl, arith}
 use Rattle.player.specs.Streams.{unread_of, one, end}
 use Rattle.player.proofs.stream.EventStream.next_event.Goals as goal
 
-pub returns-in-Some : goal.returns-in-Some
-returns-in-Some g c = λ events rest out s. let k = c.in-Some.ensures.next events rest out (c.loop.invariant.2 events rest out s) in one k.1 k.2
+pub returns-in-Some-clause-next : goal.returns-in-Some-clause-next
+returns-in-Some-clause-next g c = λ events rest out s. let k = c.in-Some.ensures.next events rest out (c.loop.invariant.2 events rest out s) in one k.1 k.2
 
-pub returns-then-not-branch : goal.returns-then-not-branch
-returns-then-not-branch g c = λ events rest out s.
+pub returns-then-not-branch-clause-next : goal.returns-then-not-branch-clause-next
+returns-then-not-branch-clause-next g c = λ events rest out s.
     let k = c.in_default.ensures.next events rest out (c.loop.invariant.2 events rest out s) in
     let f = c.in_ok-read_on.ensures.read (c.in_default.ensures.short refl) k.0 rest out k.2 in
     rw k.1 (end f.0 (f.1 c.if-not-branch.true))
