@@ -1,5 +1,5 @@
 -- Samples and key turns, by what the rack answers.
-use Rattle.std.proofs.Common.{◌≡◌, ℕ, ◌≤◌, Bool, true, false, cond, ◌&&◌, leb, List, length, is_some, Some, None, Ok, Err, Option, MatchResult, IsErrAnd, sym, refl, ap, ◌∙◌, subst, true≢false, arith}
+use Rattle.std.proofs.Common.{◌≡◌, ℕ, ◌≤◌, Bool, true, false, cond, ◌&&◌, leb, List, length, is_some, Some, None, Ok, Err, Option, MatchResult, IsErrAnd, sym, refl, ap, ◌∙◌, subst, true≢false, arith, slice_get}
 use Rattle.std.specs.Result.{result_err}
 use Rattle.std.specs.declared.result.Result as results
 use Rattle.std.proofs.lemmas.Bool.{le-leb, leb-true, cond-true}
@@ -17,7 +17,6 @@ use Rattle.receiver.specs.Holding.{Holds}
 use Rattle.receiver.specs.declared.state.Receiver.{Receiver}
 use Rattle.runs.specs.Channel.{channel, Operation, sample, key, change_of}
 use Rattle.runs.specs.Outcomes.{Outcome, operated_at}
-use Rattle.runs.specs.Places.{element_at}
 use Rattle.runs.specs.Traces.{Result, local, taken, refused, local_result}
 use Rattle.serving.proofs.Writes.{written_after}
 use Rattle.panel.specs.declared.state.Panel.{Panel}
@@ -47,7 +46,7 @@ line_kept None rs t k u = refl
 module _ (n : ℕ) (rs rs' : List Record) (x : Receiver) (t : List Character) (k : ℕ) (u : Operation) (few : length rs ≤ 15) (holds : Holds x t)
     (after : rs' ≡ records_after (written_at rs k (change_of u)) rs k) where
   outcome_is : outcome_for (Some n) rs t (local k u) ≡ operated_at channel rs t k u (channel_of rs k)
-  outcome_is = ap (λ (qs : List Record). operated_at channel qs t k u (element_at qs k)) (channels_few n rs few) ∙ ap (operated_at channel rs t k u) (element_channel rs k few)
+  outcome_is = ap (λ (qs : List Record). operated_at channel qs t k u (slice_get qs k)) (channels_few n rs few) ∙ ap (operated_at channel rs t k u) (element_channel rs k few)
 
   pub local_comes : (y : Result channel) → y ≡ rack_result (answer_of (written_at rs k (change_of u))) → Comes (Some n) rs rs' x (outcome_for (Some n) rs t (local k u)) y
   local_comes y e =

@@ -1,5 +1,5 @@
 -- The record at a place, as the run relation and as the rack say it.
-use Rattle.std.proofs.Common.{◌≡◌, ℕ, zero, suc, ◌<◌, ◌≤◌, true, ◌&&◌, leb, List, [], ◌∷◌, ◌++◌, length, drop, is_some, Some, None, Ok, Err, Option, Result, MatchOption, sym, refl, ap, ◌∙◌, subst, true≢false}
+use Rattle.std.proofs.Common.{◌≡◌, ℕ, zero, suc, ◌<◌, ◌≤◌, true, ◌&&◌, leb, List, [], ◌∷◌, ◌++◌, length, drop, is_some, Some, None, Ok, Err, Option, Result, MatchOption, sym, refl, ap, ◌∙◌, subst, true≢false, slice_get}
 use Rattle.std.proofs.lemmas.Bool.{le-leb, leb-true, lt-ltb, le-ltb}
 use Rattle.std.specs.Option.{ok_or}
 use Rattle.refusals.specs.Refusals.{number_of}
@@ -8,16 +8,15 @@ use Rattle.refusals.specs.declared.Refusal.TheVariants.{NoChannel, ShortBuffer}
 use Rattle.record.specs.Layout.{encoded}
 use Rattle.rack.specs.Meaning.{record_at, channel_of}
 use Rattle.record.specs.declared.Record.{Record}
-use Rattle.runs.specs.Places.{element_at}
 use Rattle.serving.proofs.Writes.{channel_record}
 use Rattle.panel.specs.Panels.{channels_of, look_record, look_buffer}
 
-element_record : (records : List Record) (k : ℕ) → element_at records k ≡ record_at records k
+element_record : (records : List Record) (k : ℕ) → slice_get records k ≡ record_at records k
 element_record [] k = refl
 element_record (r ∷ records) zero = refl
 element_record (r ∷ records) (suc k) = element_record records k
 
-pub element_channel : (records : List Record) (k : ℕ) → length records ≤ 15 → element_at records k ≡ channel_of records k
+pub element_channel : (records : List Record) (k : ℕ) → length records ≤ 15 → slice_get records k ≡ channel_of records k
 element_channel records k few = element_record records k ∙ sym (channel_record records k few)
 
 pub channels_few : (n : ℕ) (records : List Record) → length records ≤ 15 → channels_of (Some n) records ≡ records
@@ -47,10 +46,10 @@ filled {buffer} (Some q) r h l e =
     record { answer = rw b refl; leaves = rw b (let k : r ≡ q = cc in ap (λ (x : List ℕ). x ++ drop 80 buffer) (e ∙ ap encoded k)) }
 
 -- the record that is found at a channel is that of the panel, if it was set up
-channel_here : (supply : Option ℕ) (records : List Record) (k : ℕ) → true ≡ (is_some supply && leb (length records) 15) → channel_of records k ≡ element_at (channels_of supply records) k
-channel_here (Some n) records k e = let few = leb-true (length records) 15 (sym e) in sym (ap (λ (rs : List Record). element_at rs k) (channels_few n records few) ∙ element_channel records k few)
+channel_here : (supply : Option ℕ) (records : List Record) (k : ℕ) → true ≡ (is_some supply && leb (length records) 15) → channel_of records k ≡ slice_get (channels_of supply records) k
+channel_here (Some n) records k e = let few = leb-true (length records) 15 (sym e) in sym (ap (λ (rs : List Record). slice_get rs k) (channels_few n records few) ∙ element_channel records k few)
 channel_here None records k e = absurd (true≢false e)
 
 pub looked : (supply : Option ℕ) (records : List Record) (k : ℕ) → true ≡ (is_some supply && leb (length records) 15) → (found : Option Record) → found ≡ channel_of records k
-    → {buffer : List ℕ} {said : Result (Unit {0}) ℕ} {after : List ℕ} → Looked buffer said after found → Looked buffer said after (element_at (channels_of supply records) k)
+    → {buffer : List ℕ} {said : Result (Unit {0}) ℕ} {after : List ℕ} → Looked buffer said after found → Looked buffer said after (slice_get (channels_of supply records) k)
 looked supply records k up found told {buffer} {said} {after} = subst (Looked buffer said after) (told ∙ channel_here supply records k up)

@@ -1,6 +1,5 @@
-ghost use Rattle.std.specs.Prelude.{◌≡◌};
+ghost use Rattle.std.specs.Prelude.{◌≡◌, slice_get};
 ghost use Rattle.refusals.specs.Refusals.{numbered};
-ghost use Rattle.runs.specs.Places.{element_at};
 ghost use Rattle.panel.specs.Panels.{channels_in, look_record, look_buffer};
 
 use crate::state::Panel;
@@ -13,8 +12,8 @@ impl<R: Rack> Panel<R> {
     // Fills the front of `out` with the 80 bytes of a channel's record: 101 where there is no such channel, then 102 where `out`
     // has under 80 bytes. Bytes past them stay, and nothing else changes.
     pub fn look(&self, channel: u8, out: &mut [u8]) -> Result<(), Refusal>
-        ensures answer { numbered result ≡ look_record out.old (element_at (channels_in R.Rack.records self.now) channel) }
-        ensures buffer { out.new ≡ look_buffer out.old (element_at (channels_in R.Rack.records self.now) channel) }
+        ensures answer { numbered result ≡ look_record out.old (slice_get (channels_in R.Rack.records self.now) channel) }
+        ensures buffer { out.new ≡ look_buffer out.old (slice_get (channels_in R.Rack.records self.now) channel) }
     {
         if !self.is_set_up() {
             return Err(Refusal::NoChannel);

@@ -3,10 +3,11 @@ use Rattle.std.proofs.Common.{◌≡◌, ◌==◌, nat_lt, suc, true, false, ℕ
 use Rattle.std.proofs.Math.Seq.{take-append-add}
 use Rattle.std.proofs.lemmas.Bool.{ltb-true, ltb-false}
 use Rattle.std.proofs.lemmas.List.{length-take-le, length-drop, length-append, take-append-le, drop-append-le, drop-drop}
+use Rattle.std.specs.Simd.{first_chunks}
 use Rattle.std.specs.Io.KnownBytes.{Consumes, IsAtEnd}
 use Rattle.recording.specs.Lines.{refusal_line}
 use Rattle.player.specs.Outputs.{rest_line}
-use Rattle.recording.specs.Recordings.{first_events, events_of, rest_of}
+use Rattle.recording.specs.Recordings.{events_of, rest_of}
 
 -- what a read took of known bytes
 pub consumed : (old new : Option (List ℕ)) (left bytes : List ℕ) → old ≡ Some left → Consumes old new bytes → (left' : List ℕ) × (new ≡ Some left') × (left ≡ bytes ++ left')
@@ -30,7 +31,7 @@ one_event bytes long =
     let n = length (drop 12 bytes) / 12 in
     let more : length bytes / 12 ≡ suc n = omega (arith, length-drop 12 bytes) in
     let places : suc n * 12 ≡ 12 + n * 12 = omega arith in
-    (ap (λ k. first_events k bytes) more, ap (λ k. drop (k * 12) bytes) more ∙ (ap (λ k. drop k bytes) places ∙ sym (drop-drop (n * 12) 12 bytes)))
+    (ap (λ k. first_chunks 12 k bytes) more, ap (λ k. drop (k * 12) bytes) more ∙ (ap (λ k. drop k bytes) places ∙ sym (drop-drop (n * 12) 12 bytes)))
 
 -- fewer than 12 are none
 no_event : (bytes : List ℕ) → length bytes < 12 → (events_of bytes ≡ []) × (rest_of bytes ≡ bytes)

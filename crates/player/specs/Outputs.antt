@@ -1,5 +1,5 @@
 -- What a recording prints, event by event.
-use Rattle.std.specs.Prelude.{ℕ, cond, List, [], ◌∷◌, ◌++◌, length, codes, Some, None, Option, Ok, Err, Result, ◌==◌}
+use Rattle.std.specs.Prelude.{ℕ, cond, List, [], ◌∷◌, ◌++◌, length, codes, Some, None, Option, Ok, Err, Result, ◌==◌, slice_get}
 use Rattle.header.specs.Shares.{capacity_of}
 use Rattle.hexdigits.specs.Hex.{hex_of}
 use Rattle.line.specs.Characters.{Character}
@@ -11,7 +11,6 @@ use Rattle.recording.specs.declared.events.Format.{Format}
 use Rattle.recording.specs.declared.events.Pause.TheVariants.{Look, SetUp}
 use Rattle.runs.specs.Channel.{channel}
 use Rattle.runs.specs.Outcomes.{Outcome, outcome}
-use Rattle.runs.specs.Places.{element_at}
 use Rattle.setup.specs.SetUps.{set_up_refusal}
 
 -- a panel that was set up: its supply, its records, and the unended transmission that it heard
@@ -42,7 +41,7 @@ set_up_played s supply (Some number) = record { line = refusal_line number; afte
 -- what an event asks for; one that asks for nothing is refused
 abbrev pub played : State → Result Asked ℕ → Played
 played s (Ok (calls c)) = call_played s (outcome channel (capacity_of s.supply) s.records s.unended c)
-played s (Ok (pauses (Look k))) = look_played s (element_at s.records k)
+played s (Ok (pauses (Look k))) = look_played s (slice_get s.records k)
 played s (Ok (pauses (SetUp supply))) = set_up_played s supply (set_up_refusal supply s.records)
 played s (Err number) = record { line = refusal_line number; after = s }
 

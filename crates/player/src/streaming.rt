@@ -93,13 +93,13 @@ impl<R: Read + Drop, W: Write + Drop> EventStream<R, W> {
         }
     }
 
-    // Writes the lines out and flushes: who gives the input may wait for them.
+    // Writes the lines out: who gives the input may wait for them. Standard output has no buffer; a writer that has one is flushed by
+    // its owner.
     fn write_out(&mut self) -> io::Result<()>
         ensures written { OfStream R.Read.remaining W.Write.contents self.old (λ events rest out. OnOk result (Streams R.Read.remaining W.Write.contents self.new events rest out × (W.Write.contents self.new.output ≡ Some out))) }
         ensures unread { unread_of self.new ≡ unread_of self.old }
     {
         self.output.write_all(self.lines.as_slice())?;
-        self.output.flush()?;
         self.lines.clear();
         Ok(())
     }

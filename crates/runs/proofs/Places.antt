@@ -1,7 +1,7 @@
 -- Lists by place.
-use Rattle.std.proofs.Common.{◌≡◌, ℕ, zero, suc, Bool, true, false, cond, not, eqb, ◌↔◌, List, [], ◌∷◌, map, set, Some, None, Option, sym, refl, ap, ◌∙◌, subst, arith}
+use Rattle.std.proofs.Common.{◌≡◌, ℕ, zero, suc, Bool, true, false, cond, not, eqb, ◌↔◌, List, [], ◌∷◌, map, set, Some, None, Option, sym, refl, ap, ◌∙◌, subst, arith, slice_get}
 use Rattle.std.proofs.lemmas.Bool.{eqb-true, eqb-false, both_ways, not-true, and_parts}
-use Rattle.runs.specs.Places.{At, here, there, OnlyAt, element_at, nowhere?, next_place, only_place}
+use Rattle.runs.specs.Places.{At, here, there, OnlyAt, nowhere?, next_place, only_place}
 
 -- a test that cannot pass
 untrue : (b : Bool) → (b ≡ true → ⊥) → b ≡ false
@@ -38,14 +38,14 @@ module _ {X : Type 0} where
   set_same here = refl
   set_same (there {y = y} a) = ap {B = List X} (λ l. y ∷ l) (set_same a)
 
-  pub element_at_lem : {xs : List X} {k : ℕ} {x : X} → At xs k x → element_at xs k ≡ Some x
-  element_at_lem here = refl
-  element_at_lem (there a) = element_at_lem a
+  pub get_at : {xs : List X} {k : ℕ} {x : X} → At xs k x → slice_get xs k ≡ Some x
+  get_at here = refl
+  get_at (there a) = get_at a
 
-  pub at_element : (xs : List X) (k : ℕ) {x : X} → element_at xs k ≡ Some x → At xs k x
-  at_element [] k e = absurd (none_some refl e)
-  at_element (y ∷ xs) zero {x} e = let p : y ≡ x = cc in subst (λ (v : X). At (y ∷ xs) zero v) p here
-  at_element (y ∷ xs) (suc k) e = there (at_element xs k e)
+  pub at_get : (xs : List X) (k : ℕ) {x : X} → slice_get xs k ≡ Some x → At xs k x
+  at_get [] k e = absurd (none_some refl e)
+  at_get (y ∷ xs) zero {x} e = let p : y ≡ x = cc in subst (λ (v : X). At (y ∷ xs) zero v) p here
+  at_get (y ∷ xs) (suc k) e = there (at_get xs k e)
 
   -- the element at k, after a change at j
   pub at_changed : {xs : List X} {j k : ℕ} {x y : X} (z : X) (b : Bool) → eqb j k ≡ b → At xs j y → At xs k x → At (set xs j z) k (cond b z x)

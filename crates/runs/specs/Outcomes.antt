@@ -1,7 +1,7 @@
 -- The one outcome of a call.
-use Rattle.std.specs.Prelude.{◌≡◌, ℕ, ◌+◌, Bool, cond, ◌&&◌, [], ◌∷◌, ◌++◌, Some, None, Option, nat_lt, slice_set}
+use Rattle.std.specs.Prelude.{◌≡◌, ℕ, ◌+◌, Bool, cond, ◌&&◌, [], ◌∷◌, ◌++◌, Some, None, Option, nat_lt, slice_set, slice_get}
 use Rattle.runs.specs.Devices.{Device}
-use Rattle.runs.specs.Places.{element_at, only_place}
+use Rattle.runs.specs.Places.{only_place}
 use Rattle.runs.specs.Shares.{others}
 use Rattle.runs.specs.Steps.{Step}
 use Rattle.runs.specs.Traces.{Rack, Line, Call, Result, Event, character, gap, local, taken, refused, silent, answered, ◌▸◌, local_result}
@@ -34,7 +34,7 @@ module _ (D : Device) where
 
   -- the transmission has ended: of the place of the one channel that it means, if it means just one
   abbrev pub ended : ℕ → Rack D → Line D → Option ℕ → Outcome
-  ended capacity rs t (Some k) = answered_by capacity rs t k (element_at rs k)
+  ended capacity rs t (Some k) = answered_by capacity rs t k (slice_get rs k)
   ended capacity rs t None = outcome_of silent rs []
 
   -- a local operation on the channel at place k: of its record, if the rack has that place
@@ -45,7 +45,7 @@ module _ (D : Device) where
   abbrev pub outcome : ℕ → Rack D → Line D → Call D → Outcome
   outcome capacity rs t (character c) = cond (D.acceptable? c) (outcome_of taken rs (t ++ (c ∷ []))) (outcome_of (refused 109) rs t)
   outcome capacity rs t (gap n) = cond (nat_lt n 64) (outcome_of (refused 102) rs t) (ended capacity rs t (sole rs t))
-  outcome capacity rs t (local k u) = operated_at rs t k u (element_at rs k)
+  outcome capacity rs t (local k u) = operated_at rs t k u (slice_get rs k)
 
   -- the call with this outcome is a step
   abbrev pub Leads : ℕ → Rack D → Line D → Call D → Outcome → Type 0

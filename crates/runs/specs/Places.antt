@@ -17,12 +17,6 @@ next_place (Some k) = Some (suc k)
 next_place None = None
 
 module _ {X : Type 0} where
-  -- what the list has at place k, if it has that place
-  abbrev pub element_at : List X → ℕ → Option X
-  element_at [] k = None
-  element_at (x ∷ xs) zero = Some x
-  element_at (x ∷ xs) (suc k) = element_at xs k
-
   -- the test holds nowhere
   abbrev pub nowhere? : (X → Bool) → List X → Bool
   nowhere? test [] = true
