@@ -159,64 +159,80 @@ def told(command, one):
     return {12: one[49:73], 13: one[28:49], 16: one[6:9]}[command]
 
 
+def some_request(chance, one):
+    """A request to a channel: address, command and data."""
+    command = chance.one_of(tuple(RIGHT) + READING + (chance.below(256),))
+    data = chance.bytes(RIGHT.get(command, chance.below(30)))
+    if command == 11:
+        data = tag(one)
+    if command in (6, 59):
+        data = bytes([chance.below(20)])
+    if command == 236:
+        data = b"\x39" + lawful(chance).to_bytes(4, "big")
+    return chance.one_of((short(one), long(one), short(one, 0), EVERY)), command, data
+
+
+def some_marks(chance, received, start, sound):
+    """The characters before the start may be marked, those from it on not if they are sound."""
+    marks = bytearray(len(received))
+    marks[chance.below(start)] = chance.below(8)
+    if not sound:
+        marks[start + chance.below(len(received) - start)] = 1 + chance.below(7)
+    return marks
+
+
+def frame_of_answer(buffer, length, address, command, preambles):
+    """First status, second status and data of an answer, whose form is tested."""
+    expect("past the answer", bytes(buffer[length:]), b"\xa5" * (len(buffer) - length))
+    expect("at most 50", length <= 50, True)
+    expect("preambles", bytes(buffer[:preambles]), b"\xff" * preambles)
+    frame = bytes(buffer[preambles:length])
+    expect("check", exclusive_or(frame), 0)
+    width = len(address)
+    expect("start", frame[0], 0x06 if width == 1 else 0x86)
+    expect("echo", frame[1:2 + width], address + bytes([command]))
+    expect("count", frame[2 + width], len(frame) - width - 4)
+    return frame[3 + width], frame[4 + width], frame[5 + width:-1]
+
+
+def written(command, data, reply, one, after):
+    """What a writing command did that was taken."""
+    changes = {place for place in range(80) if one[place] != after[place]}
+    expect("touched", changes - {9} <= set(TOUCHED[command]), True)
+    expect("key as it was", after[9] & 2, 2)
+    expect("flag", after[9] & 1, {38: 0, 236: one[9] & 1}.get(command, 1))
+    expect("reply", reply, told(235, after) if command == 236 else data)
+    if command != 38:
+        held = bytes(after[place] for place in TOUCHED[command])
+        expect("held", held, data[1:] if command == 236 else data)
+
+
 def answered():
     """What holds of every answer, whatever it is to."""
     chance = Chance(55)
     for _ in range(8 * ROUNDS):
         one = any_record(chance)
-        command = chance.one_of(tuple(RIGHT) + READING + (chance.below(256),))
-        data = chance.bytes(RIGHT.get(command, chance.below(30)))
-        if command == 11:
-            data = tag(one)
-        if command in (6, 59):
-            data = bytes([chance.below(20)])
-        if command == 236:
-            data = b"\x39" + lawful(chance).to_bytes(4, "big")
-        address = chance.one_of((short(one), long(one), short(one, 0), EVERY))
+        address, command, data = some_request(chance, one)
         received = request(address, command, data, 2 + chance.below(9))
         sound = chance.below(4) > 0
-        # The characters before the start may be marked, those from it on not.
-        marks = bytearray(len(received))
         start = received.index(0x02 if len(address) == 1 else 0x82)
-        marks[chance.below(start)] = chance.below(8)
-        if not sound:
-            marks[start + chance.below(len(received) - start)] = 1 + chance.below(7)
-        room = 64 + chance.below(9)
-        buffer = bytearray([0xA5]) * room
+        marks = some_marks(chance, received, start, sound)
+        buffer = bytearray([0xA5]) * (64 + chance.below(9))
         header = Header(chance.below(15_000_001), chance.below(10**12))
         length, after = respond(received, marks, one, header, buffer)
 
-        expect("past the answer", bytes(buffer[length:]), b"\xa5" * (room - length))
-        expect("at most 50", length <= 50, True)
         expect("lawful after", records.fault(after), None)
-        front = after[5]
-        expect("preambles", bytes(buffer[:front]), b"\xff" * front)
-        frame = bytes(buffer[front:length])
-        expect("check", exclusive_or(frame), 0)
-        width = len(address)
-        expect("start", frame[0], 0x06 if width == 1 else 0x86)
-        expect("echo", frame[1:2 + width], address + bytes([command]))
-        expect("count", frame[2 + width], len(frame) - width - 4)
-        first, second = frame[3 + width:5 + width]
-        reply = frame[5 + width:-1]
-        changes = {place for place in range(80) if one[place] != after[place]}
+        first, second, reply = frame_of_answer(buffer, length, address, command, after[5])
         if not sound:
             expect("communication error", (first >= 128, second, reply), (True, 0, b""))
         else:
             expect("second status", second, 64 * (after[9] % 2))
         if first != 0:
-            expect("no data, no change", (reply, changes), (b"", set()))
+            expect("no data, no change", (reply, after), (b"", one))
         elif command in READING:
-            expect("only read", (reply, changes), (told(command, one), set()))
+            expect("only read", (reply, after), (told(command, one), one))
         else:
-            expect("touched", changes - {9} <= set(TOUCHED[command]), True)
-            expect("key as it was", after[9] & 2, 2)
-            flag = {38: 0, 236: one[9] & 1}.get(command, 1)
-            expect("flag", after[9] & 1, flag)
-            expect("reply", reply, told(235, after) if command == 236 else data)
-            if command != 38:
-                held = bytes(after[place] for place in TOUCHED[command])
-                expect("held", held, data[1:] if command == 236 else data)
+            written(command, data, reply, one, after)
 
 
 def run():

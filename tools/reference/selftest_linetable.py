@@ -34,12 +34,9 @@ def requests_by_hand():
         expect(line, answer(line), wanted)
 
 
-def by_hand():
-    """Answers worked by hand."""
-    shut, held = worked(), opened()
-    changed = opened(flags="03")
-    bad = worked(flags="04")
-    header = "1500 102400000"
+def shut_by_hand():
+    """Answers of a channel with the key shut, worked by hand."""
+    shut, bad = worked(), worked(flags="04")
     for line, wanted in (
         (f"respond {shut} 0 0 FFFF0281100093 - 64",
          f"answered FFFF06811005000000000795 {shut}"),
@@ -67,6 +64,15 @@ def by_hand():
         (f"respond {shut} 0 0 FFFF0281100093 - 63", "refused 102"),
         (f"respond {bad} 0 0 - - 64", "refused 103"),
         (f"respond {bad} 0 0 - - 63", "refused 102"),
+    ):
+        expect(line, answer(line), wanted)
+
+
+def opened_by_hand():
+    """Answers of a channel with the key open, worked by hand."""
+    held, changed = opened(), opened(flags="03")
+    header = "1500 102400000"
+    for line, wanted in (
         (f"respond {held} {header} FFFF0281EC05394248000059 - 64",
          f"answered FFFF0681EC0C00003942480000AB43FA000046 {opened(setpoint='42480000')}"),
         (f"respond {held} {header} FFFF0281EC05394248000158 - 64",
@@ -145,5 +151,6 @@ def table_covers():
 
 def run():
     requests_by_hand()
-    by_hand()
+    shut_by_hand()
+    opened_by_hand()
     table_covers()

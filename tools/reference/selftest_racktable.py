@@ -19,11 +19,14 @@ PLAIN_WORD = ("5A12345603" "05789ABC00" "41C80000" "5011" "000003E8" "43790000"
               "41B40000" + PLAIN[28:73].hex().upper() + "00000000000000")
 
 
-def by_hand():
-    """Answers worked by hand."""
-    told = PLAIN_WORD
-    at_20 = told[:28] + "14" + told[30:]
-    for line, wanted in (
+def answers_are(rows):
+    for line, wanted in rows:
+        expect(line, answer(line), wanted)
+
+
+def setpoints_by_hand():
+    """Answers on setpoints, worked by hand."""
+    answers_are((
         ("load 41C80000", "load 25600"),
         ("load 3DCCCCCD", "load 103"),
         ("load 00000000", "load 0"),
@@ -58,6 +61,14 @@ def by_hand():
         ("units 42C80000 0", "none"),
         ("units 42C80000 1000001", "none"),
         ("share 4294967295 4294967295", "18446744065119617025"),
+    ))
+
+
+def records_by_hand():
+    """Answers on records, files and texts, worked by hand."""
+    told = PLAIN_WORD
+    expect("the plain record", PLAIN.hex().upper(), told)
+    answers_are((
         (f"record {told}", "lawful"),
         (f"record {told[:8]}10{told[10:]}", "refused 103 4"),
         (f"record {told[:-2]}01", "refused 103 73"),
@@ -70,6 +81,14 @@ def by_hand():
         (f"text {told} 0", "41"),
         (f"text {told} 44", f"{(0x41 + 37 * 44) % 256:02X}"),
         (f"text {told} 45", "refused 110"),
+    ))
+
+
+def writes_by_hand():
+    """Answers to writes, worked by hand."""
+    told = PLAIN_WORD
+    at_20 = told[:28] + "14" + told[30:]
+    answers_are((
         (f"write {told} 255 polling 15", f"taken {told[:8]}0F{told[10:]}"),
         (f"write {told} 255 polling 16", f"refused 2 {told}"),
         (f"write {told} 20 polling 16", f"refused 2 {at_20}"),
@@ -90,9 +109,7 @@ def by_hand():
         (f"write {told} 20 setpoint 41A00000",
          f"taken {at_20[:20]}41A00000{at_20[28:]}"),
         (f"write {told} 20 setpoint 41A00001", f"refused 3 {at_20}"),
-    ):
-        expect(line, answer(line), wanted)
-    expect("the plain record", PLAIN.hex().upper(), told)
+    ))
 
 
 def each_has_its_own():
@@ -102,8 +119,8 @@ def each_has_its_own():
         expect("operations", {line.split(" ")[0] for line in lines}, operations)
 
 
-def tables_cover():
-    """Every answer to every operation."""
+def answers_seen():
+    """Every operation of the tables with its answer, and how long they are."""
     lines = [line for table, _ in TABLES for line in table.operations()]
     seen = set()
     size = 0
@@ -121,6 +138,12 @@ def tables_cover():
         if operation == "text" and not words[1:]:
             operation = "text byte"
         seen.add(f"{operation}: {found}")
+    return seen, size
+
+
+def tables_cover():
+    """Every answer to every operation."""
+    seen, size = answers_seen()
     for operation, answers in (
         ("load", ("nan", "below zero", "infinite", "overload", "load 0", "load 25600")),
         ("admitted", ("refused 2", "refused 3", "refused 4", "load 0", "load 102400")),
@@ -147,6 +170,8 @@ def tables_cover():
 
 
 def run():
-    by_hand()
+    setpoints_by_hand()
+    records_by_hand()
+    writes_by_hand()
     each_has_its_own()
     tables_cover()
