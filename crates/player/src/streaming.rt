@@ -1,4 +1,4 @@
-ghost use Rattle.std.specs.Prelude.{◌≡◌, ◌<◌, ℕ, true, false, Some, None, List, ◌++◌, length, IfOk, IfErr, OnOk};
+ghost use Rattle.std.specs.Prelude.{◌≡◌, ◌<◌, ℕ, true, false, Some, None, List, ◌++◌, length, is_ok, IfOk, IfErr, OnOk, if◌then◌else◌};
 ghost use Rattle.std.specs.Option.{option_to_list};
 ghost use Rattle.calls.specs.Views.{result_of};
 ghost use Rattle.recording.specs.Lines.{line_of};
@@ -104,17 +104,17 @@ impl<R: Read + Drop, W: Write + Drop> EventStream<R, W> {
         Ok(())
     }
 
-    // The line of what came of an event, if it has one.
+    // The line of what came of an event, if it has one. Where memory is short, nothing is told.
     #[inline(always)]
     pub fn tell(&mut self, outcome: Result<Outcome<'_>, Refusal>) -> Result<(), AllocError>
-        ensures { OfStream R.Read.remaining W.Write.contents self.old (λ events rest out. OnOk result (Streams R.Read.remaining W.Write.contents self.new events rest (out ++ line_of (result_of outcome.entry)))) }
+        ensures { OfStream R.Read.remaining W.Write.contents self.old (λ events rest out. Streams R.Read.remaining W.Write.contents self.new events rest (if is_ok result then out ++ line_of (result_of outcome.entry) else out)) }
     {
         push_line(&mut self.lines, outcome)
     }
 
-    // A line of another kind.
+    // A line of another kind, in the same way.
     pub fn print(&mut self, line: &[u8]) -> Result<(), AllocError>
-        ensures { OfStream R.Read.remaining W.Write.contents self.old (λ events rest out. OnOk result (Streams R.Read.remaining W.Write.contents self.new events rest (out ++ line.now))) }
+        ensures { OfStream R.Read.remaining W.Write.contents self.old (λ events rest out. Streams R.Read.remaining W.Write.contents self.new events rest (if is_ok result then out ++ line.now else out)) }
     {
         self.lines.extend_from_slice(line)
     }
