@@ -8,7 +8,7 @@ use Rattle.line.specs.Answers.{answer_to, status_of}
 use Rattle.line.specs.Characters.{Character, received}
 use Rattle.line.specs.declared.codes.Header.{Header}
 use Rattle.record.specs.declared.Record.{Record}
-use Rattle.runs.specs.Channel.{channel}
+use Rattle.runs.specs.Channel.{flow_channel}
 use Rattle.runs.specs.Outcomes.{outcome}
 use Rattle.runs.specs.Traces.{Result as CallResult, gap, silent, answered}
 use Rattle.setpoint.specs.Load.{has_load, load_of}
@@ -47,8 +47,8 @@ abbrev pub ample : Header
 ample = record { supply = 15000000; others = 0 }
 
 -- the result of a gap with a buffer of 64 bytes, after these bytes
-abbrev pub gap_after : ℕ → List Record → List ℕ → CallResult channel
-gap_after supply records sent = (outcome channel (capacity_of supply) records (unmarked sent) (gap 64)).result
+abbrev pub gap_after : ℕ → List Record → List ℕ → CallResult flow_channel
+gap_after supply records sent = (outcome flow_channel (capacity_of supply) records (unmarked sent) (gap 64)).result
 
 abbrev pub Holds : Row → Type 0
 Holds (packs text bytes) = (text? text ≡ true) × (packed text ≡ bytes) × (unpacked bytes ≡ text)

@@ -20,7 +20,7 @@ use Rattle.receiver.specs.Summaries.{Summary, summary_of, held, reception}
 use Rattle.receiver.specs.declared.state.Receiver.{Receiver}
 use Rattle.record.specs.declared.Record.{Record}
 use Rattle.runs.specs.Channel as flow
-use Rattle.runs.specs.Channel.{channel, frame_in, means_frame, nameplate}
+use Rattle.runs.specs.Channel.{flow_channel, frame_in, means_frame, nameplate}
 use Rattle.runs.specs.Damage.{bytes_in}
 use Rattle.runs.specs.Outcomes.{Outcome, outcome_of, sole, answered_by, ended}
 use Rattle.runs.specs.Outcomes as runs
@@ -37,49 +37,49 @@ use Rattle.panel.proofs.Places.{element_channel, channels_few}
 use Rattle.panel.proofs.Splits.{outcome_split}
 
 -- what a call leaves of what was served
-abbrev outcome_as : Served → Outcome channel
-outcome_as s = outcome_of channel (served_result s.answer) s.records []
+abbrev outcome_as : Served → Outcome flow_channel
+outcome_as s = outcome_of flow_channel (served_result s.answer) s.records []
 
 module _ (supply : ℕ) (rs : List Record) (t : List Character) (f : Parts) (framed : frame_in t ≡ Some f) (k : ℕ) where
   abbrev x : Reception
   x = received t
 
   -- the outcome at a channel, by what its frame says
-  abbrev chosen : Record → Option Parts → Outcome channel
+  abbrev chosen : Record → Option Parts → Outcome flow_channel
   chosen r o =
-      cond (flow.asks_frame o x r && ltb (capacity_of supply) (others channel rs k + flow.asked_frame o (nameplate r)))
-      (outcome_of channel (answered k (flow.denial_frame o r)) rs [])
-      (outcome_of channel (answered k (flow.answer_frame o x r)) (set rs k (flow.served_frame o x r)) [])
+      cond (flow.asks_frame o x r && ltb (capacity_of supply) (others flow_channel rs k + flow.asked_frame o (nameplate r)))
+      (outcome_of flow_channel (answered k (flow.denial_frame o r)) rs [])
+      (outcome_of flow_channel (answered k (flow.answer_frame o x r)) (set rs k (flow.served_frame o x r)) [])
 
   objected : (r : Record) (b : Bool) → channel_of rs k ≡ Some r
-      → cond b (outcome_of channel (answered k (answer_bytes f (refused 16 r))) rs []) (outcome_of channel (answered k (answer_bytes f (own_outcome x f r))) (set rs k (own_outcome x f r).after) [])
+      → cond b (outcome_of flow_channel (answered k (answer_bytes f (refused 16 r))) rs []) (outcome_of flow_channel (answered k (answer_bytes f (own_outcome x f r))) (set rs k (own_outcome x f r).after) [])
       ≡ outcome_as (served_by rs f k (cond b (refused 16 r) (own_outcome x f r)))
-  objected r true e = ap (λ (qs : List Record). outcome_of channel (answered k (answer_bytes f (refused 16 r))) qs []) (sym (set_record rs k r (record_of_channel rs k r e)))
+  objected r true e = ap (λ (qs : List Record). outcome_of flow_channel (answered k (answer_bytes f (refused 16 r))) qs []) (sym (set_record rs k r (record_of_channel rs k r e)))
   objected r false e = refl
 
-  at_record : (o : Option Record) → channel_of rs k ≡ o → answered_by channel (capacity_of supply) rs t k o ≡ outcome_as (served_record supply rs x f k o)
+  at_record : (o : Option Record) → channel_of rs k ≡ o → answered_by flow_channel (capacity_of supply) rs t k o ≡ outcome_as (served_record supply rs x f k o)
   at_record (Some r) e =
       ap (chosen r) framed
-      ∙ (objected r (flow.asks_frame (Some f) x r && ltb (capacity_of supply) (others channel rs k + flow.asked_frame (Some f) (nameplate r))) e
+      ∙ (objected r (flow.asks_frame (Some f) x r && ltb (capacity_of supply) (others flow_channel rs k + flow.asked_frame (Some f) (nameplate r))) e
       ∙ ap (λ (o : line.Outcome). outcome_as (served_by rs f k o)) (sym (outcome_split x f r (header_for supply rs k))))
   at_record None e = refl
 
 module _ (supply : ℕ) (rs : List Record) (t : List Character) (few : length rs ≤ 15) where
-  at_place : (f : Parts) → frame_in t ≡ Some f → (o : Option ℕ) → ended channel (capacity_of supply) rs t o ≡ outcome_as (served_place supply rs (received t) f o)
-  at_place f e (Some k) = ap (answered_by channel (capacity_of supply) rs t k) (element_channel rs k few) ∙ at_record supply rs t f e k (channel_of rs k) refl
+  at_place : (f : Parts) → frame_in t ≡ Some f → (o : Option ℕ) → ended flow_channel (capacity_of supply) rs t o ≡ outcome_as (served_place supply rs (received t) f o)
+  at_place f e (Some k) = ap (answered_by flow_channel (capacity_of supply) rs t k) (element_channel rs k few) ∙ at_record supply rs t f e k (channel_of rs k) refl
   at_place f e None = refl
 
   never : (qs : List Record) → only_place (means_frame None) qs ≡ None
   never [] = refl
   never (q ∷ qs) = ap next_place (never qs)
 
-  at_frame : (o : Option Parts) → frame_in t ≡ o → ended channel (capacity_of supply) rs t (sole channel rs t) ≡ outcome_as (served_frame supply rs (received t) o)
+  at_frame : (o : Option Parts) → frame_in t ≡ o → ended flow_channel (capacity_of supply) rs t (sole flow_channel rs t) ≡ outcome_as (served_frame supply rs (received t) o)
   at_frame (Some f) e =
-      ap (ended channel (capacity_of supply) rs t) (ap (λ (o : Option Parts). only_place (means_frame o) rs) e ∙ sym (cond-true _ _ _ (le-leb (length rs) 15 few)))
+      ap (ended flow_channel (capacity_of supply) rs t) (ap (λ (o : Option Parts). only_place (means_frame o) rs) e ∙ sym (cond-true _ _ _ (le-leb (length rs) 15 few)))
       ∙ at_place f e (sole_meant f rs)
-  at_frame None e = ap (ended channel (capacity_of supply) rs t) (ap (λ (o : Option Parts). only_place (means_frame o) rs) e ∙ never rs)
+  at_frame None e = ap (ended flow_channel (capacity_of supply) rs t) (ap (λ (o : Option Parts). only_place (means_frame o) rs) e ∙ never rs)
 
-  pub gap_served : (n : ℕ) → 64 ≤ n → runs.outcome channel (capacity_of supply) rs t (gap n) ≡ outcome_as (served supply rs (received t))
+  pub gap_served : (n : ℕ) → 64 ≤ n → runs.outcome flow_channel (capacity_of supply) rs t (gap n) ≡ outcome_as (served supply rs (received t))
   gap_served n l = rw (le-ltb n 64 l) (at_frame (frame_in t) refl)
 
 -- two preambles are as good as more
@@ -135,22 +135,22 @@ many supply rs (Some x) b = many_place supply rs x b (frame_of x)
 many supply rs None b = refl
 
 -- without channels a gap is silent
-silent_gap : (capacity : ℕ) (t : List Character) (n : ℕ) → 64 ≤ n → runs.outcome channel capacity [] t (gap n) ≡ outcome_of channel silent [] []
+silent_gap : (capacity : ℕ) (t : List Character) (n : ℕ) → 64 ≤ n → runs.outcome flow_channel capacity [] t (gap n) ≡ outcome_of flow_channel silent [] []
 silent_gap capacity t n l = rw (le-ltb n 64 l) refl
 
-nobody : (supply : Option ℕ) (rs : List Record) (t : List Character) (n : ℕ) → 64 ≤ n → channels_of supply rs ≡ [] → outcome_for supply rs t (gap n) ≡ outcome_of channel silent (channels_of supply rs) []
+nobody : (supply : Option ℕ) (rs : List Record) (t : List Character) (n : ℕ) → 64 ≤ n → channels_of supply rs ≡ [] → outcome_for supply rs t (gap n) ≡ outcome_of flow_channel silent (channels_of supply rs) []
 nobody supply rs t n l e =
-    subst (λ (qs : List Record). runs.outcome channel (capacity_for supply) qs t (gap n) ≡ outcome_of channel silent qs []) (sym e) (silent_gap (capacity_for supply) t n l)
+    subst (λ (qs : List Record). runs.outcome flow_channel (capacity_for supply) qs t (gap n) ≡ outcome_of flow_channel silent qs []) (sym e) (silent_gap (capacity_for supply) t n l)
 
 module _ (rs : List Record) (x x' : Receiver) (t : List Character) (n : ℕ) (holds : Holds x t) (room : 64 ≤ n) (new : Holds x' []) where
   few_comes : (supply : ℕ) → length rs ≤ 15
       → Comes (Some supply) rs (panel_served (Some supply) rs (held x)).records x' (outcome_for (Some supply) rs t (gap n)) (served_result (panel_served (Some supply) rs (held x)).answer)
   few_comes supply few =
       let s : panel_served (Some supply) rs (held x) ≡ served supply rs (received t) = ap (λ (y : Summary). served_reception supply rs (reception y)) holds.kept ∙ kept_served supply rs t holds.bytes in
-      let o : outcome_for (Some supply) rs t (gap n) ≡ outcome_as (panel_served (Some supply) rs (held x)) = ap (λ (qs : List Record). runs.outcome channel (capacity_of supply) qs t (gap n)) (channels_few supply rs few) ∙ (gap_served supply rs t few n room ∙ ap outcome_as (sym s)) in
+      let o : outcome_for (Some supply) rs t (gap n) ≡ outcome_as (panel_served (Some supply) rs (held x)) = ap (λ (qs : List Record). runs.outcome flow_channel (capacity_of supply) qs t (gap n)) (channels_few supply rs few) ∙ (gap_served supply rs t few n room ∙ ap outcome_as (sym s)) in
       let y = panel_served (Some supply) rs (held x) in
       let f : records_for (Some supply) rs (outcome_as y) ≡ y.records = cond-true _ _ _ (le-leb (length rs) 15 few) in
-      subst (λ (p : Outcome channel). Comes (Some supply) rs y.records x' p (served_result y.answer)) (sym o) (record { result_is = refl; records_are = sym f; holds = new })
+      subst (λ (p : Outcome flow_channel). Comes (Some supply) rs y.records x' p (served_result y.answer)) (sym o) (record { result_is = refl; records_are = sym f; holds = new })
 
   none_comes : (supply : Option ℕ) (s : Served) → channels_of supply rs ≡ [] → s ≡ silence rs → Comes supply rs s.records x' (outcome_for supply rs t (gap n)) (served_result s.answer)
   none_comes supply s e k =

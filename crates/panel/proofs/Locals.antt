@@ -15,7 +15,7 @@ use Rattle.record.specs.Readings.{is_finite}
 use Rattle.record.specs.declared.Record.{Record}
 use Rattle.receiver.specs.Holding.{Holds}
 use Rattle.receiver.specs.declared.state.Receiver.{Receiver}
-use Rattle.runs.specs.Channel.{channel, Operation, sample, key, change_of}
+use Rattle.runs.specs.Channel.{flow_channel, Operation, sample, key, change_of}
 use Rattle.runs.specs.Outcomes.{Outcome, operated_at}
 use Rattle.runs.specs.Traces.{Result, local, taken, refused, local_result}
 use Rattle.serving.proofs.Writes.{written_after}
@@ -25,7 +25,7 @@ use Rattle.panel.proofs.Doing.{Comes, does}
 use Rattle.panel.proofs.Places.{element_channel, channels_few}
 
 -- a rack's answer as a result
-abbrev rack_result : results.Result (Unit {0}) ℕ → Result channel
+abbrev rack_result : results.Result (Unit {0}) ℕ → Result flow_channel
 rack_result (Ok u) = taken
 rack_result (Err n) = refused n
 
@@ -35,25 +35,25 @@ local_result_lem (Err n) = refl
 
 -- what the definition says, by the record of the channel
 by_record : (o : Option Record) (rs : List Record) (t : List Character) (k : ℕ) (u : Operation) → channel_of rs k ≡ o
-    → (rack_result (answer_of (answered (written (change_of u)) o)) ≡ (operated_at channel rs t k u o).result) × (records_after (written_at rs k (change_of u)) rs k ≡ (operated_at channel rs t k u o).rack)
+    → (rack_result (answer_of (answered (written (change_of u)) o)) ≡ (operated_at flow_channel rs t k u o).result) × (records_after (written_at rs k (change_of u)) rs k ≡ (operated_at flow_channel rs t k u o).rack)
 by_record (Some r) rs t k u e = (local_result_lem (written (change_of u) r), written_after rs k r (change_of u) e)
 by_record None rs t k u e = (refl, ap (λ (o : Option Record). records_after (answered (written (change_of u)) o) rs k) e)
 
-line_kept : (o : Option Record) (rs : List Record) (t : List Character) (k : ℕ) (u : Operation) → t ≡ (operated_at channel rs t k u o).line
+line_kept : (o : Option Record) (rs : List Record) (t : List Character) (k : ℕ) (u : Operation) → t ≡ (operated_at flow_channel rs t k u o).pending
 line_kept (Some r) rs t k u = refl
 line_kept None rs t k u = refl
 
 module _ (n : ℕ) (rs rs' : List Record) (x : Receiver) (t : List Character) (k : ℕ) (u : Operation) (few : length rs ≤ 15) (holds : Holds x t)
     (after : rs' ≡ records_after (written_at rs k (change_of u)) rs k) where
-  outcome_is : outcome_for (Some n) rs t (local k u) ≡ operated_at channel rs t k u (channel_of rs k)
-  outcome_is = ap (λ (qs : List Record). operated_at channel qs t k u (slice_get qs k)) (channels_few n rs few) ∙ ap (operated_at channel rs t k u) (element_channel rs k few)
+  outcome_is : outcome_for (Some n) rs t (local k u) ≡ operated_at flow_channel rs t k u (channel_of rs k)
+  outcome_is = ap (λ (qs : List Record). operated_at flow_channel qs t k u (slice_get qs k)) (channels_few n rs few) ∙ ap (operated_at flow_channel rs t k u) (element_channel rs k few)
 
-  pub local_comes : (y : Result channel) → y ≡ rack_result (answer_of (written_at rs k (change_of u))) → Comes (Some n) rs rs' x (outcome_for (Some n) rs t (local k u)) y
+  pub local_comes : (y : Result flow_channel) → y ≡ rack_result (answer_of (written_at rs k (change_of u))) → Comes (Some n) rs rs' x (outcome_for (Some n) rs t (local k u)) y
   local_comes y e =
       let b = by_record (channel_of rs k) rs t k u refl in
-      let o = operated_at channel rs t k u (channel_of rs k) in
+      let o = operated_at flow_channel rs t k u (channel_of rs k) in
       let f : records_for (Some n) rs o ≡ o.rack = rw (le-leb (length rs) 15 few) refl in
-      subst (λ (p : Outcome channel). Comes (Some n) rs rs' x p y) (sym outcome_is) (record {
+      subst (λ (p : Outcome flow_channel). Comes (Some n) rs rs' x p y) (sym outcome_is) (record {
         result_is = e ∙ b.0;
         records_are = after ∙ (b.1 ∙ sym f);
         holds = subst (Holds x) (line_kept (channel_of rs k) rs t k u) holds;
@@ -84,7 +84,7 @@ calls_answer w (Err e) (Err d) a n h = ap refused (h ∙ cond-true _ _ _ (le-leb
 
 -- an operation on a panel that was set up
 operated_comes : (supply : Option ℕ) (rs rs' : List Record) (x : Receiver) (k : ℕ) (u : Operation) → true ≡ (is_some supply && leb (length rs) 15)
-    → rs' ≡ records_after (written_at rs k (change_of u)) rs k → (y : Result channel) → y ≡ rack_result (answer_of (written_at rs k (change_of u)))
+    → rs' ≡ records_after (written_at rs k (change_of u)) rs k → (y : Result flow_channel) → y ≡ rack_result (answer_of (written_at rs k (change_of u)))
     → (t : List Character) → Holds x t → Comes supply rs rs' x (outcome_for supply rs t (local k u)) y
 operated_comes (Some n) rs rs' x k u up after y e t h = local_comes n rs rs' x t k u (leb-true (length rs) 15 (sym up)) h after y e
 operated_comes None rs rs' x k u up after y e t h = absurd (true≢false up)

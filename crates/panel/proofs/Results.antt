@@ -6,7 +6,7 @@ use Rattle.std.specs.Option.{option_map}
 use Rattle.line.specs.Characters.{Character}
 use Rattle.receiver.specs.Holding.{Holds}
 use Rattle.record.specs.declared.Record.{Record}
-use Rattle.runs.specs.Channel.{channel}
+use Rattle.runs.specs.Channel.{flow_channel}
 use Rattle.runs.specs.Outcomes.{outcome_of}
 use Rattle.runs.specs.Traces.{Result, gap, refused, silent}
 use Rattle.serving.specs.Serving.{channel_and_length, front_of}
@@ -45,10 +45,10 @@ front_is : (a : Option (ℕ × List ℕ)) (buffer : List ℕ) → front_of a buf
 front_is (Some a) buffer = refl
 front_is None buffer = refl
 
-pub buffer_is : (y : Result channel) (a : Option (ℕ × List ℕ)) (buffer buffer' : List ℕ) → y ≡ served_result a → buffer' ≡ front_of a buffer → buffer' ≡ buffer_of y buffer
-buffer_is y a buffer buffer' e b = b ∙ (front_is a buffer ∙ ap (λ (z : Result channel). buffer_of z buffer) (sym e))
+pub buffer_is : (y : Result flow_channel) (a : Option (ℕ × List ℕ)) (buffer buffer' : List ℕ) → y ≡ served_result a → buffer' ≡ front_of a buffer → buffer' ≡ buffer_of y buffer
+buffer_is y a buffer buffer' e b = b ∙ (front_is a buffer ∙ ap (λ (z : Result flow_channel). buffer_of z buffer) (sym e))
 
-pub gap_does : {X : Type 0} (records : X → List Record) (p p' : Panel X) (n : ℕ) (y : Result channel) → 64 ≤ n → Holds p'.receiver [] → p'.supply ≡ p.supply
+pub gap_does : {X : Type 0} (records : X → List Record) (p p' : Panel X) (n : ℕ) (y : Result flow_channel) → 64 ≤ n → Holds p'.receiver [] → p'.supply ≡ p.supply
     → records p'.rack ≡ (served_in records p).records → y ≡ served_result (served_in records p).answer → Does records p p' (gap n) y
 gap_does records p p' n y room new k r e =
     let rs = records p.rack in
@@ -56,7 +56,7 @@ gap_does records p p' n y room new k r e =
     let c = gap_comes rs p.receiver p'.receiver t n h room new p.supply in
     record { result_is = e ∙ c.result_is; records_are = r ∙ c.records_are; holds = c.holds })
 
-pub short_gap : (supply : Option ℕ) (rs : List Record) (t : List Character) (n : ℕ) → n < 64 → outcome_for supply rs t (gap n) ≡ outcome_of channel (refused 102) (channels_of supply rs) t
+pub short_gap : (supply : Option ℕ) (rs : List Record) (t : List Character) (n : ℕ) → n < 64 → outcome_for supply rs t (gap n) ≡ outcome_of flow_channel (refused 102) (channels_of supply rs) t
 short_gap supply rs t n l = rw (lt-ltb n 64 l) refl
 
 -- a gap that is silent has no answer

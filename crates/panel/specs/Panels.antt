@@ -9,7 +9,7 @@ use Rattle.record.specs.Layout.{encoded}
 use Rattle.record.specs.declared.Record.{Record}
 use Rattle.refusals.specs.Refusals.{number_of}
 use Rattle.refusals.specs.declared.Refusal.{Refusal}
-use Rattle.runs.specs.Channel.{channel}
+use Rattle.runs.specs.Channel.{flow_channel}
 use Rattle.runs.specs.Outcomes.{Outcome, outcome}
 use Rattle.runs.specs.Steps.{Step}
 use Rattle.runs.specs.Traces.{Call, Result, taken, refused, silent, answered, ◌▸◌}
@@ -31,31 +31,31 @@ capacity_for (Some supply) = capacity_of supply
 capacity_for None = 0
 
 -- the one outcome of a call, with the characters t taken since the last taken gap
-abbrev pub outcome_for : Option ℕ → List Record → List Character → Call channel → Outcome channel
-outcome_for supply records t c = outcome channel (capacity_for supply) (channels_of supply records) t c
+abbrev pub outcome_for : Option ℕ → List Record → List Character → Call flow_channel → Outcome flow_channel
+outcome_for supply records t c = outcome flow_channel (capacity_for supply) (channels_of supply records) t c
 
 -- the records of the rack after it
-abbrev pub records_for : Option ℕ → List Record → Outcome channel → List Record
+abbrev pub records_for : Option ℕ → List Record → Outcome flow_channel → List Record
 records_for (Some supply) records o = cond (nat_le (length records) 15) o.rack records
 records_for None records o = records
 
 -- A call that keeps the supply of a panel, whose rack means these records, has this result; for whatever characters the receiver
 -- holds, it is their one outcome, and on a panel that was set up it is one step of the run relation.
-pub record Does {X : Type 0} (records : X → List Record) (p p' : Panel X) (c : Call channel) (result : Result channel) : Type 0 where
+pub record Does {X : Type 0} (records : X → List Record) (p p' : Panel X) (c : Call flow_channel) (result : Result flow_channel) : Type 0 where
   pub keeps : p'.supply ≡ p.supply
   pub result_is : (t : List Character) → Holds p.receiver t → result ≡ (outcome_for p.supply (records p.rack) t c).result
   pub records_are : (t : List Character) → Holds p.receiver t → records p'.rack ≡ records_for p.supply (records p.rack) (outcome_for p.supply (records p.rack) t c)
-  pub holds : (t : List Character) → Holds p.receiver t → Holds p'.receiver (outcome_for p.supply (records p.rack) t c).line
+  pub holds : (t : List Character) → Holds p.receiver t → Holds p'.receiver (outcome_for p.supply (records p.rack) t c).pending
   pub steps : (n : ℕ) → p.supply ≡ Some n → length (records p.rack) ≤ 15 → (t : List Character) → Holds p.receiver t
-      → Step channel (capacity_of n) (records p.rack) t (c ▸ result) (records p'.rack) (outcome_for p.supply (records p.rack) t c).line
+      → Step flow_channel (capacity_of n) (records p.rack) t (c ▸ result) (records p'.rack) (outcome_for p.supply (records p.rack) t c).pending
 
 -- a call's answer as the result of a trace
-abbrev pub result_of : results.Result (Unit {0}) Refusal → Result channel
+abbrev pub result_of : results.Result (Unit {0}) Refusal → Result flow_channel
 result_of (Ok u) = taken
 result_of (Err e) = refused (number_of e)
 
 -- a gap's, with the buffer after it
-abbrev pub gap_result_of : results.Result (Option Answer) Refusal → List ℕ → Result channel
+abbrev pub gap_result_of : results.Result (Option Answer) Refusal → List ℕ → Result flow_channel
 gap_result_of (Ok None) buffer = silent
 gap_result_of (Ok (Some a)) buffer = answered a.channel (take a.length buffer)
 gap_result_of (Err e) buffer = refused (number_of e)
@@ -73,12 +73,12 @@ abbrev pub served_in : {X : Type 0} → (X → List Record) → Panel X → Serv
 served_in records p = panel_served p.supply (records p.rack) (held p.receiver)
 
 -- who answers, if anybody, as the result of a trace
-abbrev pub served_result : Option (ℕ × List ℕ) → Result channel
+abbrev pub served_result : Option (ℕ × List ℕ) → Result flow_channel
 served_result (Some a) = answered a.0 a.1
 served_result None = silent
 
 -- the buffer after a gap: the answer stands in its front; silent or refused, it is as it was
-abbrev pub buffer_of : Result channel → List ℕ → List ℕ
+abbrev pub buffer_of : Result flow_channel → List ℕ → List ℕ
 buffer_of taken buffer = buffer
 buffer_of (refused n) buffer = buffer
 buffer_of silent buffer = buffer

@@ -3,8 +3,8 @@ ghost use Rattle.std.specs.Option.{option_map};
 ghost use Rattle.std.specs.Result.{result_err};
 ghost use Rattle.calls.specs.Views.{call_of, event_of};
 ghost use Rattle.refusals.specs.Refusals.{number_of};
-ghost use Rattle.runs.specs.Channel.{channel as flowChannel};
-ghost use Rattle.runs.specs.Traces.{Call as TraceCall, Event, gap};
+ghost use Rattle.runs.specs.Channel.{flow_channel};
+ghost use Rattle.runs.specs.Traces.{Call as TraceCall, Interaction, gap};
 ghost use Rattle.setup.specs.SetUps.{set_up_refusal};
 ghost use Rattle.panel.specs.Working.{within, Performed, WorkedOn, Worked};
 
@@ -18,10 +18,10 @@ use serving::Answer;
 // by all that happened before.
 pub trait Driver {
     // From the driver before to the one after, it named this call.
-    ghost names: { Self → Self → TraceCall flowChannel → Type 0 };
+    ghost names: { Self → Self → TraceCall flow_channel → Type 0 };
 
     // From the driver before to the one after, it was told this call with its result.
-    ghost hears: { Self → Self → Event flowChannel → Type 0 };
+    ghost hears: { Self → Self → Interaction flow_channel → Type 0 };
 
     // From the driver before to the one after, it ended the run.
     ghost ends: { Self → Self → Type 0 };

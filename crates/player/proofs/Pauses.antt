@@ -16,8 +16,8 @@ use Rattle.recording.specs.Lines.{refusal_line}
 use Rattle.recording.specs.declared.events.Format.{Format}
 use Rattle.recording.specs.declared.events.Pause.{Pause}
 use Rattle.refusals.specs.Refusals.{number_of}
-use Rattle.runs.proofs.Runs.{line_run, run_split, same_run}
-use Rattle.runs.specs.Channel.{channel}
+use Rattle.runs.proofs.Runs.{pending_run, run_split, same_run}
+use Rattle.runs.specs.Channel.{flow_channel}
 use Rattle.runs.specs.SetUps.{SetUp as TakenSetUp}
 use Rattle.runs.specs.Steps.{Run}
 use Rattle.shelf.specs.declared.shelf.Shelf.{Shelf}
@@ -59,7 +59,7 @@ look_refused s (Some r) zeros number h e = let k : ◌≡◌ {A = Result (Unit {
 pub set_up : (s : State) (supply : ℕ) (p p' : Panel Shelf) → Stands p s → p'.rack ≡ p.rack → TakenSetUp supply (records_of p.rack) → Begun p' supply → Stands p' (record { supply = supply; records = s.records; unended = [] })
 set_up s supply p p' stands same taken begun =
     let u = begins records_of supply p p' same taken begun in
-    record { before = records_of p.rack; trace = []; underway = u; records_are = stands.records_are ∙ ap records_of (sym same); unended_is = sym (line_run channel (capacity_of supply) u.ran) }
+    record { before = records_of p.rack; trace = []; underway = u; records_are = stands.records_are ∙ ap records_of (sym same); unended_is = sym (pending_run flow_channel (capacity_of supply) u.ran) }
 
 module _ {R W : Type 0} (remaining : R → Option (List ℕ)) (contents : W → Option (List ℕ)) (buffer buffer' : List ℕ) (enough : 64 ≤ length buffer) (p p' : Player R W) (panel panel' : Panel Shelf) where
   -- a run that goes on
@@ -68,16 +68,16 @@ module _ {R W : Type 0} (remaining : R → Option (List ℕ)) (contents : W → 
   worked_on s stands w taken most total going =
       let u = w.underway s.supply stands.before stands.trace stands.underway in
       let capacity = capacity_of s.supply in
-      let apart = run_split channel capacity stands.trace w.trace u.ran in
-      let same = same_run channel capacity apart.until stands.underway.ran refl in
-      let run = subst₂ (λ (x : List Record) (y : List Character). Run channel capacity x y w.trace (records_of panel'.rack) u.line) (same.1 ∙ sym stands.records_are) (same.2 ∙ sym stands.unended_is) apart.onward in
-      let s' : State = record { supply = s.supply; records = records_of panel'.rack; unended = u.line } in
+      let apart = run_split flow_channel capacity stands.trace w.trace u.ran in
+      let same = same_run flow_channel capacity apart.until stands.underway.ran refl in
+      let run = subst₂ (λ (x : List Record) (y : List Character). Run flow_channel capacity x y w.trace (records_of panel'.rack) u.pending) (same.1 ∙ sym stands.records_are) (same.2 ∙ sym stands.unended_is) apart.onward in
+      let s' : State = record { supply = s.supply; records = records_of panel'.rack; unended = u.pending } in
       let stands' : Stands panel' s' = record { before = stands.before; trace = stands.trace ++ w.trace; underway = u; records_are = refl; unended_is = refl } in (
         s',
         stands',
         taken + length w.trace,
         omega arith,
-        driven remaining contents (length buffer) s.supply enough p p' s.records (records_of panel'.rack) s.unended u.line w.trace w.driven run taken most total going,
+        driven remaining contents (length buffer) s.supply enough p p' s.records (records_of panel'.rack) s.unended u.pending w.trace w.driven run taken most total going,
       )
 
 -- what a player waits for that has paused, and was not interrupted

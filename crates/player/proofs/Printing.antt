@@ -13,7 +13,7 @@ use Rattle.recording.specs.declared.events.Format.{Format}
 use Rattle.recording.specs.declared.events.Pause.{Pause}
 use Rattle.runs.proofs.Outcomes.{determined}
 use Rattle.runs.proofs.Runs.{run_split}
-use Rattle.runs.specs.Channel.{channel}
+use Rattle.runs.specs.Channel.{flow_channel}
 use Rattle.runs.specs.Outcomes.{Outcome, outcome, outcome_of, sole, ended}
 use Rattle.runs.specs.Steps.{Run, goes as goes_run, rests}
 use Rattle.runs.specs.Traces.{Call, Trace, character, gap, local, refused, ◌▸◌}
@@ -106,9 +106,9 @@ module _ {R W : Type 0} (remaining : R → Option (List ℕ)) (contents : W → 
   not_paused (Some (Err i)) waits can step e = e
 
   -- with a buffer of 64 bytes and more a gap has the outcome of the room that was asked for
-  roomy : (room : ℕ) → 64 ≤ room → (s : State) (c : Call channel) → outcome channel (capacity_of s.supply) s.records s.unended c ≡ outcome channel (capacity_of s.supply) s.records s.unended (within room c)
+  roomy : (room : ℕ) → 64 ≤ room → (s : State) (c : Call flow_channel) → outcome flow_channel (capacity_of s.supply) s.records s.unended c ≡ outcome flow_channel (capacity_of s.supply) s.records s.unended (within room c)
   roomy room h s (character c) = refl
-  roomy room h s (gap n) = ap (λ (short? : Bool). cond short? (outcome_of channel (refused 102) s.records s.unended) (ended channel (capacity_of s.supply) s.records s.unended (sole channel s.records s.unended))) (short_in (leb n room) refl)
+  roomy room h s (gap n) = ap (λ (short? : Bool). cond short? (outcome_of flow_channel (refused 102) s.records s.unended) (ended flow_channel (capacity_of s.supply) s.records s.unended (sole flow_channel s.records s.unended))) (short_in (leb n room) refl)
     where
       short_in : (b : Bool) → leb n room ≡ b → nat_lt n 64 ≡ nat_lt (min n room) 64
       short_in true e = rw (min-eq_left (leb-true n room e)) refl
@@ -122,29 +122,29 @@ module _ {R W : Type 0} (remaining : R → Option (List ℕ)) (contents : W → 
   standing supply records unended = record { supply = supply; records = records; unended = unended }
 
   -- what a player printed that drove a run
-  pub printed : (room supply : ℕ) → 64 ≤ room → {p p' : Player R W} {records records' : List Record} {unended unended' : List Character} {trace : Trace channel}
-      → Drives (Names remaining contents) (Hears remaining contents) room p trace p' → Run channel (capacity_of supply) records unended trace records' unended' → (taken most : ℕ) (total : List ℕ)
+  pub printed : (room supply : ℕ) → 64 ≤ room → {p p' : Player R W} {records records' : List Record} {unended unended' : List Character} {trace : Trace flow_channel}
+      → Drives (Names remaining contents) (Hears remaining contents) room p trace p' → Run flow_channel (capacity_of supply) records unended trace records' unended' → (taken most : ℕ) (total : List ℕ)
       → Going remaining contents p (lines_of p.format (standing supply records unended)) taken most total → Going remaining contents p' (lines_of p'.format (standing supply records' unended')) (taken + length trace) most total
   printed room supply h {p = p} {records = records} {unended = unended} begins rests taken most total g =
       let none : taken ≡ taken + 0 = omega arith in
       subst (λ n. Going remaining contents p (lines_of p.format (standing supply records unended)) n most total) none g
   printed room supply h {records' = records'} {unended' = unended'} (goes {trace} {d₁} {d₂} {d₃} {c} {x} drives named told) run taken most total g =
       let capacity = capacity_of supply in
-      let s = run_split channel capacity trace ((within room c ▸ x) ∷ []) run in
+      let s = run_split flow_channel capacity trace ((within room c ▸ x) ∷ []) run in
       let before = printed room supply h drives s.until taken most total g in
-      let o : outcome channel capacity s.rack s.line c ≡ outcome_of channel x records' unended' = roomy room h (standing supply s.rack s.line) c ∙ last s.onward in
-      let named' = named (standing supply s.rack s.line) (taken + length trace) most total before in
+      let o : outcome flow_channel capacity s.rack s.pending c ≡ outcome_of flow_channel x records' unended' = roomy room h (standing supply s.rack s.pending) c ∙ last s.onward in
+      let named' = named (standing supply s.rack s.pending) (taken + length trace) most total before in
       let told' = told.1 (lines_of d₂.format (standing supply records' unended')) (suc (taken + length trace)) most total
-      (subst (λ (o : Outcome channel). Going remaining contents d₂ (λ events. (call_played (standing supply s.rack s.line) o).line ++ lines_of d₂.format (call_played (standing supply s.rack s.line) o).after events) (suc (taken + length trace)) most total) o named') in
+      (subst (λ (o : Outcome flow_channel). Going remaining contents d₂ (λ events. (call_played (standing supply s.rack s.pending) o).line ++ lines_of d₂.format (call_played (standing supply s.rack s.pending) o).after events) (suc (taken + length trace)) most total) o named') in
       let more : suc (taken + length trace) ≡ taken + length (trace ++ ((within room c ▸ x) ∷ [])) = omega (arith, length-append trace ((within room c ▸ x) ∷ [])) in
       subst (λ n. Going remaining contents d₃ (lines_of d₃.format (standing supply records' unended')) n most total) more (rw told.0 told')
     where
-      last : {rs : List Record} {t : List Character} → Run channel (capacity_of supply) rs t ((within room c ▸ x) ∷ []) records' unended' → outcome channel (capacity_of supply) rs t (within room c) ≡ outcome_of channel x records' unended'
-      last (goes_run step rests) = determined channel (capacity_of supply) _ _ _ _ _ step
+      last : {rs : List Record} {t : List Character} → Run flow_channel (capacity_of supply) rs t ((within room c ▸ x) ∷ []) records' unended' → outcome flow_channel (capacity_of supply) rs t (within room c) ≡ outcome_of flow_channel x records' unended'
+      last (goes_run step rests) = determined flow_channel (capacity_of supply) _ _ _ _ _ step
 
   -- and then ended it
-  pub driven : (room supply : ℕ) → 64 ≤ room → (p p' : Player R W) (records records' : List Record) (unended unended' : List Character) (trace : Trace channel)
-      → Driven (Names remaining contents) (Hears remaining contents) room (Ends remaining contents) p trace p' → Run channel (capacity_of supply) records unended trace records' unended' → (taken most : ℕ) (total : List ℕ)
+  pub driven : (room supply : ℕ) → 64 ≤ room → (p p' : Player R W) (records records' : List Record) (unended unended' : List Character) (trace : Trace flow_channel)
+      → Driven (Names remaining contents) (Hears remaining contents) room (Ends remaining contents) p trace p' → Run flow_channel (capacity_of supply) records unended trace records' unended' → (taken most : ℕ) (total : List ℕ)
       → Going remaining contents p (lines_of p.format (standing supply records unended)) taken most total → Paused remaining contents p' (standing supply records' unended') (suc (taken + length trace)) most total
   driven room supply h p p' records records' unended unended' trace d run taken most total g =
       let going = printed room supply h d.drives run taken most total g in

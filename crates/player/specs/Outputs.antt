@@ -9,7 +9,7 @@ use Rattle.recording.specs.Events.{Asked, calls, pauses, event_asks}
 use Rattle.recording.specs.Lines.{refusal_line, line_of}
 use Rattle.recording.specs.declared.events.Format.{Format}
 use Rattle.recording.specs.declared.events.Pause.TheVariants.{Look, SetUp}
-use Rattle.runs.specs.Channel.{channel}
+use Rattle.runs.specs.Channel.{flow_channel}
 use Rattle.runs.specs.Outcomes.{Outcome, outcome}
 use Rattle.setup.specs.SetUps.{set_up_refusal}
 
@@ -25,8 +25,8 @@ pub record Played : Type 0 where
   pub after : State
 
 -- a call, by its one outcome
-abbrev pub call_played : State → Outcome channel → Played
-call_played s o = record { line = line_of o.result; after = record { supply = s.supply; records = o.rack; unended = o.line } }
+abbrev pub call_played : State → Outcome flow_channel → Played
+call_played s o = record { line = line_of o.result; after = record { supply = s.supply; records = o.rack; unended = o.pending } }
 
 -- a look at a channel, if there is one: its record's bytes
 abbrev pub look_played : State → Option Record → Played
@@ -40,7 +40,7 @@ set_up_played s supply (Some number) = record { line = refusal_line number; afte
 
 -- what an event asks for; one that asks for nothing is refused
 abbrev pub played : State → Result Asked ℕ → Played
-played s (Ok (calls c)) = call_played s (outcome channel (capacity_of s.supply) s.records s.unended c)
+played s (Ok (calls c)) = call_played s (outcome flow_channel (capacity_of s.supply) s.records s.unended c)
 played s (Ok (pauses (Look k))) = look_played s (slice_get s.records k)
 played s (Ok (pauses (SetUp supply))) = set_up_played s supply (set_up_refusal supply s.records)
 played s (Err number) = record { line = refusal_line number; after = s }

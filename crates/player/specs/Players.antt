@@ -3,8 +3,8 @@ use Rattle.std.specs.Prelude.{◌≡◌, ℕ, suc, ◌+◌, ◌-◌, ◌^◌, �
 use Rattle.recording.specs.Events.{calls, pauses}
 use Rattle.recording.specs.Lines.{line_of}
 use Rattle.recording.specs.declared.events.Pause.{Pause}
-use Rattle.runs.specs.Channel.{channel}
-use Rattle.runs.specs.Traces.{Call, Event}
+use Rattle.runs.specs.Channel.{flow_channel}
+use Rattle.runs.specs.Traces.{Call, Interaction}
 use Rattle.player.specs.Interruptions.{CanInterrupt}
 use Rattle.player.specs.Outputs.{State, lines_of, lines_after, rest_line}
 use Rattle.player.specs.declared.driving.Player.{Player}
@@ -46,11 +46,11 @@ module _ {R W : Type 0} (remaining : R → Option (List ℕ)) (contents : W → 
 
   -- It named a call, of an event that it took: what is printed in all, on a panel in any state, is what that call prints and the
   -- events after it.
-  abbrev pub Names : Player R W → Player R W → Call channel → Type 0
+  abbrev pub Names : Player R W → Player R W → Call flow_channel → Type 0
   Names p p' c = (s : State) (taken most : ℕ) (total : List ℕ) → Going p (lines_of p.format s) taken most total → Going p' (lines_after p'.format s (Ok (calls c))) (suc taken) most total
 
   -- it was told a call with its result, and prints its line
-  abbrev pub Hears : Player R W → Player R W → Event channel → Type 0
+  abbrev pub Hears : Player R W → Player R W → Interaction flow_channel → Type 0
   Hears p p' e = (p'.format ≡ p.format) × ((lines : List (List ℕ) → List ℕ) (taken most : ℕ) (total : List ℕ) → Going p (λ events. line_of e.result ++ lines events) taken most total → Going p' lines taken most total)
 
   -- it ended the run, and has taken an event more if it waits for something

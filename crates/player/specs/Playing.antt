@@ -12,8 +12,8 @@ use Rattle.recording.specs.declared.events.Format.{Format}
 use Rattle.recording.specs.Recordings.{events_of, rest_of}
 use Rattle.refusals.specs.Refusals.{number_of}
 use Rattle.refusals.specs.declared.Refusal.{Refusal}
-use Rattle.runs.specs.Channel.{channel}
-use Rattle.runs.specs.Traces.{Call, Event, Trace}
+use Rattle.runs.specs.Channel.{flow_channel}
+use Rattle.runs.specs.Traces.{Call, Interaction, Trace}
 use Rattle.setup.specs.SetUps.{set_up_refusal}
 use Rattle.shelf.specs.Rows.{records_in}
 use Rattle.shelf.specs.declared.shelf.Shelf.{Shelf}
@@ -42,11 +42,11 @@ play_fault (Ok u) refusal = option_map inr refusal
 abbrev pub records_of : Shelf → List Record
 records_of s = records_in s.rows.items
 
-module _ {Dr : Type 0} (names : Dr → Dr → Call channel → Type 0) (hears : Dr → Dr → Event channel → Type 0) (ends : Dr → Dr → Type 0) (d d' : Dr) (buffer buffer' : List ℕ) where
+module _ {Dr : Type 0} (names : Dr → Dr → Call flow_channel → Type 0) (hears : Dr → Dr → Interaction flow_channel → Type 0) (ends : Dr → Dr → Type 0) (d d' : Dr) (buffer buffer' : List ℕ) where
   -- The run that was played: a panel over a shelf of the records was set up, and worked by the driver, with a buffer. Of the trace
   -- of these calls the whole promise holds.
   pub record Played (supply : ℕ) (records : List Record) (panel : Panel Shelf) : Type 0 where
-    pub trace : Trace channel
+    pub trace : Trace flow_channel
     pub driven : Driven names hears (length buffer) ends d trace d'
     pub left : buffer' ≡ buffer_after trace buffer
     pub underway : Underway records_of supply records trace panel
@@ -54,10 +54,10 @@ module _ {Dr : Type 0} (names : Dr → Dr → Call channel → Type 0) (hears : 
 -- A panel that was set up is in this state. Of the trace of all calls since then the whole promise holds.
 pub record Stands (panel : Panel Shelf) (s : State) : Type 0 where
   pub before : List Record
-  pub trace : Trace channel
+  pub trace : Trace flow_channel
   pub underway : Underway records_of s.supply before trace panel
   pub records_are : s.records ≡ records_of panel.rack
-  pub unended_is : s.unended ≡ underway.line
+  pub unended_is : s.unended ≡ underway.pending
 
 -- What a recording waited for is done: the panel is in some state, on which the events to come print the rest.
 pub record Attended {R W : Type 0} (remaining : R → Option (List ℕ)) (contents : W → Option (List ℕ)) (p : Player R W) (panel : Panel Shelf) (taken most : ℕ) (total : List ℕ) : Type 0 where

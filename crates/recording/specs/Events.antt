@@ -6,7 +6,7 @@ use Rattle.refusals.specs.declared.Refusal.{Refusal}
 use Rattle.setpoint.specs.Value.{value_of}
 use Rattle.record.specs.Bytes.{number32, zeros?}
 use Rattle.record.specs.declared.readings.Reading.{Reading}
-use Rattle.runs.specs.Channel.{channel, sample, key}
+use Rattle.runs.specs.Channel.{flow_channel, sample, key}
 use Rattle.runs.specs.Traces as traces
 use Rattle.calls.specs.Views.{call_of}
 use Rattle.calls.specs.declared.Call as code
@@ -26,7 +26,7 @@ abbrev pub in_form : {X : Type 0} → Bool → X → Result X ℕ
 in_form formed x = cond formed (Ok x) (Err 110)
 
 -- By byte 0: 1 a character, of a byte and its marks; 2 a gap, with room for 64 bytes; 3 a sample and 4 a key turn, of a channel. What is not used is 0.
-abbrev pub event_call : List ℕ → Result (traces.Call channel) ℕ
+abbrev pub event_call : List ℕ → Result (traces.Call flow_channel) ℕ
 event_call event =
     cond (slice_index event 0 == 1) (in_form (zeros? (between 3 12 event)) (traces.character (record { byte = slice_index event 1; marks = slice_index event 2 })))
     (cond (slice_index event 0 == 2) (in_form (zeros? (between 1 12 event)) (traces.gap 64))
@@ -35,13 +35,13 @@ event_call event =
     (Err 110))))
 
 -- what the decoder answers: a call, or the number of a refusal
-abbrev pub viewed : Result code.Call Refusal → Result (traces.Call channel) ℕ
+abbrev pub viewed : Result code.Call Refusal → Result (traces.Call flow_channel) ℕ
 viewed (Ok call) = Ok (call_of call)
 viewed (Err refusal) = Err (number_of refusal)
 
 -- what an event asks for: a call, or what is done between the calls of a run
 pub data Asked : Type 0 where
-  calls : traces.Call channel → Asked
+  calls : traces.Call flow_channel → Asked
   pauses : Pause → Asked
 
 -- By byte 0: 5 a gap of some room; 6 a look at a channel; 7 a set-up under the supply in bytes 4 to 7.
@@ -53,7 +53,7 @@ own_asks event =
     (Err 110)))
 
 -- a call, or what is asked where it is none
-abbrev pub or_else : Result (traces.Call channel) ℕ → Result Asked ℕ → Result Asked ℕ
+abbrev pub or_else : Result (traces.Call flow_channel) ℕ → Result Asked ℕ → Result Asked ℕ
 or_else (Ok call) other = Ok (calls call)
 or_else (Err number) other = other
 

@@ -1,7 +1,7 @@
 -- The line of text of an outcome. A line feed, 10, ends each line.
 use Rattle.std.specs.Prelude.{ℕ, List, [], ◌∷◌, ◌++◌, codes, decimal}
 use Rattle.hexdigits.specs.Hex.{hex_of}
-use Rattle.runs.specs.Channel.{channel}
+use Rattle.runs.specs.Channel.{flow_channel}
 use Rattle.runs.specs.Traces.{Result, taken, refused, silent, answered}
 
 abbrev pub refusal_line : ℕ → List ℕ
@@ -10,7 +10,7 @@ refusal_line number = codes "refused " ++ decimal number ++ 10 ∷ []
 abbrev pub answer_line : ℕ → List ℕ → List ℕ
 answer_line k bytes = decimal k ++ codes " " ++ hex_of bytes ++ 10 ∷ []
 
-abbrev pub line_of : Result channel → List ℕ
+abbrev pub line_of : Result flow_channel → List ℕ
 line_of taken = []
 line_of (refused number) = refusal_line number
 line_of silent = codes "silent" ++ 10 ∷ []

@@ -18,11 +18,11 @@ use Rattle.line.specs.Codes.{own_code}
 use Rattle.line.specs.Effects.{effect}
 use Rattle.line.specs.Requests.{asked_by}
 use Rattle.line.specs.Whole.{sound?, error_status}
-use Rattle.runs.specs.Channel.{Operation, sample, key, change_of, nameplate, Granted, granted_in, after_command, after_reply, after_operation, granted_share, means_frame, asks_frame, served_frame, answer_frame, denial_frame, setpoint_frame?, asked_frame, means_by, asks_by, frame_in, channel}
+use Rattle.runs.specs.Channel.{Operation, sample, key, change_of, nameplate, Granted, granted_in, after_command, after_reply, after_operation, share_of_grant, means_frame, asks_frame, served_frame, answer_frame, denial_frame, setpoint_frame?, asked_frame, means_by, asks_by, frame_in, flow_channel}
 use Rattle.runs.specs.Damage.{Damaged, CommunicationError}
-use Rattle.runs.specs.Devices.{Lawful}
+use Rattle.runs.specs.Devices.{DeviceLaws}
 use Rattle.runs.proofs.Answers.{wide, content_answer}
-use Rattle.runs.proofs.Effects.{either_way, written_plate, effect_plate, effect_granted, setpoint?, own_setpoint, own_code_lem, load_stored}
+use Rattle.runs.proofs.Effects.{either_way, written_nameplate, effect_nameplate, effect_granted, setpoint?, own_setpoint, own_code_lem, load_stored}
 use Rattle.runs.proofs.Unsound.{unsound, whole_frame, sound_of}
 
 -- an address of one or five bytes
@@ -56,8 +56,8 @@ outcomes P x f r error accepted other = elim (cases_Bool (sound? x)) [
 ]
 
 module _ (x : Reception) (f : Parts) (r : Record) (w : Wide f) where
-  served_plate_of : nameplate (own_outcome x f r).after ≡ nameplate r
-  served_plate_of = outcomes (λ o. nameplate o.after ≡ nameplate r) x f r (λ _. refl) (λ _ _. effect_plate f.command f.«data» r) (λ _ _. refl)
+  served_nameplate_of : nameplate (own_outcome x f r).after ≡ nameplate r
+  served_nameplate_of = outcomes (λ o. nameplate o.after ≡ nameplate r) x f r (λ _. refl) (λ _ _. effect_nameplate f.command f.«data» r) (λ _ _. refl)
 
   abbrev Tells : Outcome → Type 0
   Tells o = granted_in o.after ≡ cond (eqb o.status 0) (after_command f.command f.«data» (granted_in r)) (granted_in r)
@@ -150,9 +150,9 @@ module _ (t : List Character) (r : Record) where
   abbrev At : (Option Parts → Type 0) → Type 0
   At P = (o : Option Parts) → frame_in t ≡ o → P o
 
-  plate_law : At (λ o. nameplate (served_frame o (received t) r) ≡ nameplate r)
-  plate_law (Some f) e = served_plate_of (received t) f r (wide_in t f e)
-  plate_law None e = refl
+  nameplate_law : At (λ o. nameplate (served_frame o (received t) r) ≡ nameplate r)
+  nameplate_law (Some f) e = served_nameplate_of (received t) f r (wide_in t f e)
+  nameplate_law None e = refl
 
   grant_law : At (λ o. granted_in (served_frame o (received t) r) ≡ after_reply o (granted_in r) (answer_frame o (received t) r))
   grant_law (Some f) e = served_grant_of (received t) f r (wide_in t f e)
@@ -166,7 +166,7 @@ module _ (t : List Character) (r : Record) where
   kept_law (Some f) e = served_share_of (received t) f r (wide_in t f e)
   kept_law None e = λ _. refl
 
-  asked_law : At (λ o. asks_frame o (received t) r ≡ true → granted_share (nameplate r) (granted_in (served_frame o (received t) r)) ≡ asked_frame o (nameplate r))
+  asked_law : At (λ o. asks_frame o (received t) r ≡ true → share_of_grant (nameplate r) (granted_in (served_frame o (received t) r)) ≡ asked_frame o (nameplate r))
   asked_law (Some f) e = λ a. ap (λ p. share_of (load_of (value_of p)) r.fields.full_scale) (asked_setpoint_of (received t) f r (wide_in t f e) a) ∙ ap (λ l. share_of l r.fields.full_scale) (load_stored (number32 f.«data» 1))
   asked_law None e = λ a. absurd (true≢false (sym a))
 
@@ -206,10 +206,10 @@ module _ (t : List Character) (r : Record) where
   }
   error_law d None e = λ m. absurd (true≢false (sym m))
 
-pub channel_lawful : Lawful channel
-channel_lawful = record {
-  served_plate = λ r t. plate_law t r (frame_in t) refl;
-  operated_plate = λ r u. written_plate (change_of u) r;
+pub flow_channel_laws : DeviceLaws flow_channel
+flow_channel_laws = record {
+  served_nameplate = λ r t. nameplate_law t r (frame_in t) refl;
+  operated_nameplate = λ r u. written_nameplate (change_of u) r;
   served_grant = λ r t. grant_law t r (frame_in t) refl;
   denied_grant = λ r t _. denied_law t r (frame_in t) refl;
   operated_grant = operated_grant_of;

@@ -25,19 +25,19 @@ either_way P true x y p q = p
 either_way P false x y p q = q
 
 -- no write moves a nameplate
-pub written_plate : (c : Change) (r : Record) → nameplate (record_after (written c r) r) ≡ nameplate r
-written_plate (PollingAddress a) r = either_way (λ x. nameplate (record_after x r) ≡ nameplate r) (leb a 15) _ _ refl refl
-written_plate (Preambles n) r = either_way (λ x. nameplate (record_after x r) ≡ nameplate r) (ltb n 2) _ _ refl (either_way (λ x. nameplate (record_after x r) ≡ nameplate r) (ltb 15 n) _ _ refl refl)
-written_plate (AssemblyNumber n) r = either_way (λ x. nameplate (record_after x r) ≡ nameplate r) (leb n 16777215) _ _ refl refl
-written_plate (Changed on) r = refl
-written_plate (Key on) r = refl
-written_plate (Sample reading) r = either_way (λ x. nameplate (record_after x r) ≡ nameplate r) (is_finite reading) _ _ refl refl
-written_plate (Text place bytes) r = either_way (λ x. nameplate (record_after x r) ≡ nameplate r) (text_run? place bytes.now) _ _ refl refl
-written_plate (Setpoint p) r = set_plate (admitted_under r.fields.ceiling (value_of p))
+pub written_nameplate : (c : Change) (r : Record) → nameplate (record_after (written c r) r) ≡ nameplate r
+written_nameplate (PollingAddress a) r = either_way (λ x. nameplate (record_after x r) ≡ nameplate r) (leb a 15) _ _ refl refl
+written_nameplate (Preambles n) r = either_way (λ x. nameplate (record_after x r) ≡ nameplate r) (ltb n 2) _ _ refl (either_way (λ x. nameplate (record_after x r) ≡ nameplate r) (ltb 15 n) _ _ refl refl)
+written_nameplate (AssemblyNumber n) r = either_way (λ x. nameplate (record_after x r) ≡ nameplate r) (leb n 16777215) _ _ refl refl
+written_nameplate (Changed on) r = refl
+written_nameplate (Key on) r = refl
+written_nameplate (Sample reading) r = either_way (λ x. nameplate (record_after x r) ≡ nameplate r) (is_finite reading) _ _ refl refl
+written_nameplate (Text place bytes) r = either_way (λ x. nameplate (record_after x r) ≡ nameplate r) (text_run? place bytes.now) _ _ refl refl
+written_nameplate (Setpoint p) r = set_nameplate (admitted_under r.fields.ceiling (value_of p))
   where
-    set_plate : (a : Result ℕ SetpointRefusal) → nameplate (record_after (with_setpoint r p a) r) ≡ nameplate r
-    set_plate (Ok load) = refl
-    set_plate (Err e) = refl
+    set_nameplate : (a : Result ℕ SetpointRefusal) → nameplate (record_after (with_setpoint r p a) r) ≡ nameplate r
+    set_nameplate (Ok load) = refl
+    set_nameplate (Err e) = refl
 
 -- what holds of the record that a command writes
 stored_keeps : (P : Record → Type 0) (command : ℕ) (bytes : List ℕ) (r : Record) → P r → ((place : ℕ) → P (with_text r place bytes)) → P (record_after (number_stored command bytes r) r)
@@ -50,23 +50,23 @@ stored_keeps P command bytes r same texts numbers =
     (either_way Q (number_write? command) _ _ (either_way R (stores? (number_write command bytes)) _ _ numbers same)
     same))
 
-number_plate : (command : ℕ) (bytes : List ℕ) (r : Record) → nameplate (record_after (number_stored command bytes r) r) ≡ nameplate r
-number_plate command bytes r =
+number_nameplate : (command : ℕ) (bytes : List ℕ) (r : Record) → nameplate (record_after (number_stored command bytes r) r) ≡ nameplate r
+number_nameplate command bytes r =
     let Q : Result Record ℕ → Type 0 = λ x. nameplate (record_after x r) ≡ nameplate r in
-    either_way Q (eqb command 6) _ _ (written_plate (PollingAddress (get_or bytes 0 0)) r)
-    (either_way Q (eqb command 19) _ _ (written_plate (AssemblyNumber (number24 bytes 0)) r)
-    (either_way Q (eqb command 59) _ _ (written_plate (Preambles (get_or bytes 0 0)) r)
-    (either_way Q (eqb command 236) _ _ (written_plate (Setpoint (number32 bytes 1)) r) refl)))
+    either_way Q (eqb command 6) _ _ (written_nameplate (PollingAddress (get_or bytes 0 0)) r)
+    (either_way Q (eqb command 19) _ _ (written_nameplate (AssemblyNumber (number24 bytes 0)) r)
+    (either_way Q (eqb command 59) _ _ (written_nameplate (Preambles (get_or bytes 0 0)) r)
+    (either_way Q (eqb command 236) _ _ (written_nameplate (Setpoint (number32 bytes 1)) r) refl)))
 
-flag_plate : (command : ℕ) (r : Record) → nameplate (flagged (flag_for command) r) ≡ nameplate r
-flag_plate command r =
+flag_nameplate : (command : ℕ) (r : Record) → nameplate (flagged (flag_for command) r) ≡ nameplate r
+flag_nameplate command r =
     let P : Option Change → Type 0 = λ o. nameplate (flagged o r) ≡ nameplate r in
     either_way P (sets_changed? command) _ _ refl (either_way P (eqb command 38) _ _ refl refl)
 
-pub effect_plate : (command : ℕ) (bytes : List ℕ) (r : Record) → nameplate (effect command bytes r) ≡ nameplate r
-effect_plate command bytes r =
-    flag_plate command (record_after (stored command bytes r) r)
-    ∙ stored_keeps (λ s. nameplate s ≡ nameplate r) command bytes r refl (λ _. refl) (number_plate command bytes r)
+pub effect_nameplate : (command : ℕ) (bytes : List ℕ) (r : Record) → nameplate (effect command bytes r) ≡ nameplate r
+effect_nameplate command bytes r =
+    flag_nameplate command (record_after (stored command bytes r) r)
+    ∙ stored_keeps (λ s. nameplate s ≡ nameplate r) command bytes r refl (λ _. refl) (number_nameplate command bytes r)
 
 flag_granted : (command : ℕ) (r : Record) → granted_in (flagged (flag_for command) r) ≡ granted_in r
 flag_granted command r =

@@ -3,15 +3,15 @@ use Rattle.std.proofs.Common.{◌≡◌, ℕ, ◌≤◌, Bool, true, false, ltb,
 use Rattle.std.proofs.lemmas.Bool.{cond_both, cond-true, cond-false, ltb-true, ltb-false, lt-ltb, le-ltb, and_parts, and_cases, and_from, and_left, and_right, both_ways}
 use Rattle.runs.specs.Devices.{Device}
 use Rattle.runs.specs.Places.{At}
-use Rattle.runs.specs.Traces.{Rack, Line, Event, character, gap, local}
+use Rattle.runs.specs.Traces.{Rack, Pending, Interaction, character, gap, local}
 use Rattle.runs.specs.Steps.{Only, Step, takes, refuses, short, nobody, serves, denies, operates, misses}
 use Rattle.runs.specs.Outcomes.{Outcome, outcome_of, sole, exceeds?, answered_by, ended, operated_at, outcome, Leads, Follows, Determined}
 use Rattle.runs.proofs.Places.{none_some, not_some, get_at, at_get, only_place_lem, place_only}
 
 module _ (D : Device) (capacity : ℕ) where
-  module _ (rs : Rack D) (t : Line D) where
+  module _ (rs : Rack D) (t : Pending D) where
     -- the transmission means just the channel at place k
-    answered_leads : {n k : ℕ} {r : D.Rec} → 64 ≤ n → At rs k r → Only D rs t k → Leads D capacity rs t (gap n) (answered_by D capacity rs t k (Some r))
+    answered_leads : {n k : ℕ} {r : D.Record} → 64 ≤ n → At rs k r → Only D rs t k → Leads D capacity rs t (gap n) (answered_by D capacity rs t k (Some r))
     answered_leads {n} {k} {r} room a only =
         cond_both (exceeds? D capacity rs t k r) _ _ (Leads D capacity rs t (gap n))
         (λ e. let p = and_parts (D.asks? r t) _ e in denies room a only p.0 (ltb-true _ _ p.1))
@@ -23,10 +23,10 @@ module _ (D : Device) (capacity : ℕ) where
     ended_leads : {n : ℕ} (o : Option ℕ) → sole D rs t ≡ o → 64 ≤ n → Leads D capacity rs t (gap n) (ended D capacity rs t o)
     ended_leads {n} (Some k) e room =
         let f = place_only (λ r. D.meant? r t) rs k e in
-        subst (λ (o : Option D.Rec). Leads D capacity rs t (gap n) (answered_by D capacity rs t k o)) (sym (get_at f.1)) (answered_leads room f.1 f.2)
+        subst (λ (o : Option D.Record). Leads D capacity rs t (gap n) (answered_by D capacity rs t k o)) (sym (get_at f.1)) (answered_leads room f.1 f.2)
     ended_leads None e room = nobody room (λ k r a only. none_some e (only_place_lem (λ q. D.meant? q t) a only))
 
-    operated_leads : (k : ℕ) (u : D.Local) (o : Option D.Rec) → slice_get rs k ≡ o → Leads D capacity rs t (local k u) (operated_at D rs t k u o)
+    operated_leads : (k : ℕ) (u : D.Operation) (o : Option D.Record) → slice_get rs k ≡ o → Leads D capacity rs t (local k u) (operated_at D rs t k u o)
     operated_leads k u (Some r) e = operates (at_get rs k e)
     operated_leads k u None e = misses (λ r a. none_some e (get_at a))
 
@@ -37,16 +37,16 @@ module _ (D : Device) (capacity : ℕ) where
   follows rs t (local k u) = operated_leads rs t k u (slice_get rs k) refl
 
   -- a taken gap has the outcome of its ended transmission
-  gap_ended : (rs : Rack D) (t : Line D) (n : ℕ) (o : Outcome D) → 64 ≤ n → ended D capacity rs t (sole D rs t) ≡ o → outcome D capacity rs t (gap n) ≡ o
+  gap_ended : (rs : Rack D) (t : Pending D) (n : ℕ) (o : Outcome D) → 64 ≤ n → ended D capacity rs t (sole D rs t) ≡ o → outcome D capacity rs t (gap n) ≡ o
   gap_ended rs t n o room e = cond-false (ltb n 64) _ _ (le-ltb n 64 room) ∙ e
 
-  gap_answered : {rs : Rack D} {t : Line D} {k : ℕ} {r : D.Rec} (n : ℕ) (o : Outcome D) → 64 ≤ n → At rs k r → Only D rs t k
+  gap_answered : {rs : Rack D} {t : Pending D} {k : ℕ} {r : D.Record} (n : ℕ) (o : Outcome D) → 64 ≤ n → At rs k r → Only D rs t k
       → answered_by D capacity rs t k (Some r) ≡ o → outcome D capacity rs t (gap n) ≡ o
   gap_answered {rs} {t} {k} n o room a only e =
       gap_ended rs t n o room
       (ap (ended D capacity rs t) (only_place_lem (λ r. D.meant? r t) a only) ∙ ap (answered_by D capacity rs t k) (get_at a) ∙ e)
 
-  pub step_outcome : {rs : Rack D} {t : Line D} {e : Event D} {rs' : Rack D} {t' : Line D} → Step D capacity rs t e rs' t' → outcome D capacity rs t e.call ≡ outcome_of D e.result rs' t'
+  pub step_outcome : {rs : Rack D} {t : Pending D} {e : Interaction D} {rs' : Rack D} {t' : Pending D} → Step D capacity rs t e rs' t' → outcome D capacity rs t e.call ≡ outcome_of D e.result rs' t'
   step_outcome (takes e) = cond-true _ _ _ e
   step_outcome (refuses e) = cond-false _ _ _ e
   step_outcome (short {n = n} e) = cond-true (ltb n 64) _ _ (lt-ltb n 64 e)

@@ -2,17 +2,17 @@
 use Rattle.std.proofs.Common.{◌≡◌, ℕ, ◌+◌, ◌≤◌, List, [], ◌∷◌, sym, refl, ap, ◌∙◌, arith}
 use Rattle.header.specs.Shares.{capacity_of, total_share, fields_share}
 use Rattle.record.specs.declared.Record.{Record}
-use Rattle.runs.specs.Channel.{channel}
+use Rattle.runs.specs.Channel.{flow_channel}
 use Rattle.runs.specs.Places.{At, here, there}
 use Rattle.runs.specs.SetUps.{SetUp, RunsPromised, CallsFollow, CallsDetermined}
 use Rattle.runs.specs.Shares.{total}
-use Rattle.runs.proofs.Channel.{channel_lawful}
+use Rattle.runs.proofs.Channel.{flow_channel_laws}
 use Rattle.runs.proofs.Outcomes.{follows, determined}
 use Rattle.runs.proofs.Promises.{promise}
 use Rattle.runs.proofs.Places.{at_sole}
 
 -- the sum of the shares as the header weighs it
-pub total_shares : (records : List Record) → total channel records ≡ total_share records
+pub total_shares : (records : List Record) → total flow_channel records ≡ total_share records
 total_shares [] = refl
 total_shares (r ∷ records) = ap (λ n. fields_share r.fields + n) (total_shares records)
 
@@ -30,13 +30,13 @@ alone supply records s k r a = record {
 }
 
 pub promised : RunsPromised
-promised supply records after trace line s w = record {
+promised supply records after trace pending s w = record {
   alone = alone supply records s;
-  kept = promise channel (capacity_of supply) channel_lawful records after trace line w (let e = total_shares records in let f = s.fits in omega arith);
+  kept = promise flow_channel (capacity_of supply) flow_channel_laws records after trace pending w (let e = total_shares records in let f = s.fits in omega arith);
 }
 
 pub calls_follow : CallsFollow
-calls_follow supply = follows channel (capacity_of supply)
+calls_follow supply = follows flow_channel (capacity_of supply)
 
 pub calls_determined : CallsDetermined
-calls_determined supply = determined channel (capacity_of supply)
+calls_determined supply = determined flow_channel (capacity_of supply)

@@ -75,8 +75,8 @@ after_operation g (key open?) (Some n) = g
 after_operation g (key open?) None = record { setpoint = g.setpoint; polling_address = g.polling_address; key_open = open? }
 
 -- the share of a granted setpoint: its load times the full scale
-abbrev pub granted_share : Nameplate → Granted → ℕ
-granted_share p g = share_of (load_of (value_of g.setpoint)) p.full_scale
+abbrev pub share_of_grant : Nameplate → Granted → ℕ
+share_of_grant p g = share_of (load_of (value_of g.setpoint)) p.full_scale
 
 -- of a frame, if the transmission is whole: whether it means a channel
 abbrev pub means_frame : Option Parts → Record → Bool
@@ -126,13 +126,13 @@ asks_by None x p g = false
 abbrev pub frame_in : List Character → Option Parts
 frame_in t = frame_of (received t)
 
-abbrev pub channel : Device
-channel = record {
-  Rec = Record;
-  Char = Character;
-  Local = Operation;
-  Ans = List ℕ;
-  Plate = Nameplate;
+abbrev pub flow_channel : Device
+flow_channel = record {
+  Record = Record;
+  Character = Character;
+  Operation = Operation;
+  Answer = List ℕ;
+  Nameplate = Nameplate;
   Grant = Granted;
   acceptable? = λ c. nat_le c.marks 7;
   meant? = λ r t. means_frame (frame_in t) r;
@@ -143,11 +143,11 @@ channel = record {
   denial? = λ a. (status_of a == 16);
   operated = λ r u. record_after (written (change_of u) r) r;
   refusal = λ r u. result_err (written (change_of u) r);
-  plate = nameplate;
+  nameplate = nameplate;
   grant = granted_in;
   after_answer = λ g t a. after_reply (frame_in t) g a;
-  after_local = after_operation;
-  share = granted_share;
+  after_operation = after_operation;
+  share = share_of_grant;
   asked = λ p t. asked_frame (frame_in t) p;
   setpoint? = λ t. setpoint_frame? (frame_in t);
   meant_by? = λ p g t. means_by (frame_in t) p g;

@@ -3,7 +3,7 @@ use Rattle.std.specs.Prelude.{◌≡◌, ℕ, ◌≤◌, List, [], ◌∷◌, le
 use Rattle.header.specs.Shares.{capacity_of, total_share}
 use Rattle.record.specs.declared.Record.{Record}
 use Rattle.line.specs.Characters.{Character}
-use Rattle.runs.specs.Channel.{channel}
+use Rattle.runs.specs.Channel.{flow_channel}
 use Rattle.runs.specs.Laws.{Kept}
 use Rattle.runs.specs.Outcomes.{Follows, Determined}
 use Rattle.runs.specs.Places.{At}
@@ -25,19 +25,19 @@ pub record SetUp (supply : ℕ) (records : List Record) : Type 0 where
 
 -- THE PROMISE about a run of a panel, since a set-up that was taken under this supply: from the records then, through a trace
 -- of calls with their results, to the records and the unended transmission after it.
-pub record Promised (supply : ℕ) (records : List Record) (trace : Trace channel) (after : List Record) (line : List Character) : Type 0 where
+pub record Promised (supply : ℕ) (records : List Record) (trace : Trace flow_channel) (after : List Record) (pending : List Character) : Type 0 where
   -- a panel that holds one of the channels alone has its set-up taken
   pub alone : (k : ℕ) (r : Record) → At records k r → SetUp supply (r ∷ [])
   -- isolation, damage, header, records
-  pub kept : Kept channel (capacity_of supply) records trace after line
+  pub kept : Kept flow_channel (capacity_of supply) records trace after pending
 
 abbrev pub RunsPromised : Type 0
-RunsPromised = (supply : ℕ) (records after : List Record) (trace : Trace channel) (line : List Character)
-    → SetUp supply records → Run channel (capacity_of supply) records [] trace after line → Promised supply records trace after line
+RunsPromised = (supply : ℕ) (records after : List Record) (trace : Trace flow_channel) (pending : List Character)
+    → SetUp supply records → Run flow_channel (capacity_of supply) records [] trace after pending → Promised supply records trace after pending
 
 -- from one state one call has exactly one result and one state after
 abbrev pub CallsFollow : Type 0
-CallsFollow = (supply : ℕ) → Follows channel (capacity_of supply)
+CallsFollow = (supply : ℕ) → Follows flow_channel (capacity_of supply)
 
 abbrev pub CallsDetermined : Type 0
-CallsDetermined = (supply : ℕ) → Determined channel (capacity_of supply)
+CallsDetermined = (supply : ℕ) → Determined flow_channel (capacity_of supply)

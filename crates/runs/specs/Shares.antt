@@ -16,8 +16,8 @@ module _ {X : Type 0} where
   sum_but amount (x ∷ xs) (suc k) = amount x + sum_but amount xs k
 
 module _ (D : Device) where
-  abbrev pub share_of : D.Rec → ℕ
-  share_of r = D.share (D.plate r) (D.grant r)
+  abbrev pub share_of : D.Record → ℕ
+  share_of r = D.share (D.nameplate r) (D.grant r)
 
   abbrev pub total : Rack D → ℕ
   total rs = sum_of share_of rs

@@ -4,36 +4,36 @@ use Rattle.runs.specs.Devices.{Device}
 
 module _ (D : Device) where
   abbrev pub Rack : Type 0
-  Rack = List D.Rec
+  Rack = List D.Record
 
   -- the characters taken since the last taken gap, or since set-up
-  abbrev pub Line : Type 0
-  Line = List D.Char
+  abbrev pub Pending : Type 0
+  Pending = List D.Character
 
   -- a character, a gap with a buffer of some length, a local operation on a channel: any number each
   pub data Call : Type 0 where
-    character : D.Char → Call
+    character : D.Character → Call
     gap : ℕ → Call
-    local : ℕ → D.Local → Call
+    local : ℕ → D.Operation → Call
 
   -- taken; refused by a number; at a gap silent, or answered by a channel
   pub data Result : Type 0 where
     taken : Result
     refused : ℕ → Result
     silent : Result
-    answered : ℕ → D.Ans → Result
+    answered : ℕ → D.Answer → Result
 
-  pub record Event : Type 0 where
+  pub record Interaction : Type 0 where
     pub call : Call
     pub result : Result
 
   abbrev pub Trace : Type 0
-  Trace = List Event
+  Trace = List Interaction
 
 module _ {D : Device} where
   infix 70 ◌▸◌
   -- a call with its result
-  abbrev pub ◌▸◌ : Call D → Result D → Event D
+  abbrev pub ◌▸◌ : Call D → Result D → Interaction D
   c ▸ x = record { call = c; result = x }
 
   -- the result of a local operation that is refused by a number, or by none

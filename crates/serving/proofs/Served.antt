@@ -22,7 +22,7 @@ use Rattle.rack.proofs.Meaning.{channel_lawful}
 use Rattle.record.specs.Lawful.{Lawful, in_range, is_lawful}
 use Rattle.record.specs.Readings.{is_finite}
 use Rattle.record.specs.declared.Record.{Record}
-use Rattle.runs.specs.Channel.{channel}
+use Rattle.runs.specs.Channel.{flow_channel}
 use Rattle.runs.specs.Places.{only_place}
 use Rattle.runs.proofs.Places.{place_only}
 use Rattle.runs.specs.Shares.{others}
@@ -80,7 +80,7 @@ other_effect x f r h a = elim (cases_Bool (sound? x)) [
 pub kept_records : (records : List Record) (k : ℕ) (r q : Record) → channel_of records k ≡ Some r → q ≡ r → records ≡ set records k q
 kept_records records k r q e s = sym (set_record records k r (record_of_channel records k r e)) ∙ ap (λ (p : Record). set records k p) (sym s)
 
-pub header_is : (supply : ℕ) (records : List Record) (k n : ℕ) → length records ≤ 15 → n ≡ cond (leb (length records) 15) (others channel records k) 0
+pub header_is : (supply : ℕ) (records : List Record) (k n : ℕ) → length records ≤ 15 → n ≡ cond (leb (length records) 15) (others flow_channel records k) 0
     → ◌≡◌ {A = Header} (record { supply = supply; others = n }) (header_for supply records k)
 header_is supply records k n few e = ap (λ (m : ℕ). record { supply = supply; others = m }) (e ∙ cond-true _ _ _ (le-leb (length records) 15 few))
 
@@ -94,7 +94,7 @@ pub record Ready (supply : ℕ) (records : List Record) (x : Reception) (buffer 
   pub header : h ≡ header_for supply records k
 
 pub ready : {supply : ℕ} {records : List Record} {x : Reception} {buffer : List ℕ} {f : Parts} {k : ℕ} {r : Record} {n : ℕ} → 64 ≤ length buffer → frame_of x ≡ Some f → sole_meant f records ≡ Some k
-    → channel_of records k ≡ Some r → AllByRecursion Lawful records → n ≡ cond (leb (length records) 15) (others channel records k) 0 → Ready supply records x buffer f k r (record { supply = supply; others = n })
+    → channel_of records k ≡ Some r → AllByRecursion Lawful records → n ≡ cond (leb (length records) 15) (others flow_channel records k) 0 → Ready supply records x buffer f k r (record { supply = supply; others = n })
 ready {supply} {records} {x} {buffer} {f} {k} {r} {n} room framed sole is lawful o = record {
   room = room;
   framed = framed;

@@ -12,7 +12,7 @@ use Rattle.rack.specs.Changes.{written, record_after}
 use Rattle.rack.specs.Meaning.{told, record_at, channel_of, written_at, records_after}
 use Rattle.rack.specs.declared.changes.Change.{Change}
 use Rattle.record.specs.declared.Record.{Record}
-use Rattle.runs.specs.Channel.{channel}
+use Rattle.runs.specs.Channel.{flow_channel}
 use Rattle.runs.specs.Places.{At, here, there}
 use Rattle.runs.specs.Shares.{others}
 use Rattle.runs.proofs.Places.{at_set, set_same}
@@ -63,7 +63,7 @@ changed_twice records mid after k r q s e m f =
     f (ap (λ (l : List Record). channel_of l k) m ∙ channel_set records k r q e) ∙ (ap (λ (l : List Record). set l k s) m ∙ set-set records k q s)
 
 -- the sum of the shares is the others' and the channel's own
-others_share : (records : List Record) (k : ℕ) → total_share records ≡ others channel records k + option_share (record_at records k)
+others_share : (records : List Record) (k : ℕ) → total_share records ≡ others flow_channel records k + option_share (record_at records k)
 others_share [] k = refl
 others_share (r ∷ records) zero = let h = total_shares records in omega arith
 others_share (r ∷ records) (suc k) = let h = others_share records k in omega arith
@@ -83,11 +83,11 @@ channel_record records k few = elim (cases_lt k (length records)) [
     either true e = refl
     either false e = sym e
 
-others_rest : (records : List Record) (k n : ℕ) → length records ≤ 15 → n ≡ share_at records k → total_share records ≡ others channel records k + n
-others_rest records k n few e = others_share records k ∙ ap (λ m. others channel records k + m) (ap option_share (sym (channel_record records k few)) ∙ sym e)
+others_rest : (records : List Record) (k n : ℕ) → length records ≤ 15 → n ≡ share_at records k → total_share records ≡ others flow_channel records k + n
+others_rest records k n few e = others_share records k ∙ ap (λ m. others flow_channel records k + m) (ap option_share (sym (channel_record records k few)) ∙ sym e)
 
 pub others_value : (records : List Record) (k n : ℕ) (a : Result ℕ Refusal) → numbered a ≡ rack_share records → MatchResult a (λ sum. n ≡ sum - share_at records k) (λ _. n ≡ 0)
-    → n ≡ cond (leb (length records) 15) (others channel records k) 0
+    → n ≡ cond (leb (length records) 15) (others flow_channel records k) 0
 others_value records k n (Ok sum) e s = elim (cases_Bool (leb (length records) 15)) [
   | inl b ↦ let t : sum ≡ total_share records = (let h = rw b at e in cc) in let o = others_rest records k (share_at records k) (leb-true (length records) 15 b) refl in rw b (omega arith)
   | inr b ↦ let h = rw b at e in cc

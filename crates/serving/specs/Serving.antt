@@ -8,7 +8,7 @@ use Rattle.line.specs.Whole.{frame_of, sound?}
 use Rattle.line.specs.declared.codes.Header.{Header}
 use Rattle.rack.specs.Meaning.{channel_of}
 use Rattle.record.specs.declared.Record.{Record}
-use Rattle.runs.specs.Channel.{channel}
+use Rattle.runs.specs.Channel.{flow_channel}
 use Rattle.runs.specs.Shares.{others}
 use Rattle.serving.specs.Meant.{sole_meant}
 
@@ -22,7 +22,7 @@ silence records = record { answer = None; records = records }
 
 -- the header as a channel meets it: the supply, and the shares of the others
 abbrev pub header_for : ℕ → List Record → ℕ → Header
-header_for supply records k = record { supply = supply; others = others channel records k }
+header_for supply records k = record { supply = supply; others = others flow_channel records k }
 
 abbrev pub served_by : List Record → Parts → ℕ → Outcome → Served
 served_by records f k o = record { answer = Some (k, answer_bytes f o); records = slice_set records k o.after }

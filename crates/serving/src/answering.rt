@@ -4,7 +4,7 @@ ghost use Rattle.line.specs.Effects.{effect, flagged};
 ghost use Rattle.line.specs.Views.{heard};
 ghost use Rattle.rack.specs.Meaning.{channel_of};
 ghost use Rattle.record.specs.declared.Record.{Record as ChannelRecord};
-ghost use Rattle.runs.specs.Channel.{channel as flowChannel};
+ghost use Rattle.runs.specs.Channel.{flow_channel};
 ghost use Rattle.runs.specs.Shares.{others};
 ghost use Rattle.serving.specs.Serving.{accepted?};
 
@@ -28,7 +28,7 @@ pub(crate) fn is_accepted(
 
 // The sum of the shares of all channels but one, 0 where the rack has too many.
 pub(crate) fn others_share<R: Rack>(rack: &R, channel: u8) -> u64
-    ensures { result ≡ (if nat_le (length (R.Rack.records rack.now)) 15 then others flowChannel (R.Rack.records rack.now) channel else 0) }
+    ensures { result ≡ (if nat_le (length (R.Rack.records rack.now)) 15 then others flow_channel (R.Rack.records rack.now) channel else 0) }
 {
     header::total_share(rack).map_or(0, |total| {
         total.saturating_sub(header::channel_share(rack, channel))

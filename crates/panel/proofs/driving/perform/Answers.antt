@@ -6,7 +6,7 @@ use Rattle.std.proofs.lemmas.List.{length-take-le, take-append-drop}
 use Rattle.calls.specs.Views.{call_of}
 use Rattle.panel.specs.Panels.{Does, buffer_of}
 use Rattle.panel.specs.Working.{within}
-use Rattle.runs.specs.Channel.{channel}
+use Rattle.runs.specs.Channel.{flow_channel}
 use Rattle.runs.specs.Traces.{Call, gap, ◌▸◌}
 use Rattle.panel.proofs.Working.{performed, extended}
 use Rattle.panel.proofs.driving.perform.Goals as goal
@@ -33,7 +33,7 @@ returns-in-Gap g c =
     let made = c.end.ensures in
     record {
       result = made.result;
-      does = subst (λ (k : Call channel). Does g.R.Rack.records c.args.panel.now c.end.new.panel k made.result) same made.does;
-      heard = subst (λ (k : Call channel). g.D.Driver.hears c.args.driver.now c.end.new.driver (k ▸ made.result)) same made.heard;
+      does = subst (λ (k : Call flow_channel). Does g.R.Rack.records c.args.panel.now c.end.new.panel k made.result) same made.does;
+      heard = subst (λ (k : Call flow_channel). g.D.Driver.hears c.args.driver.now c.end.new.driver (k ▸ made.result)) same made.heard;
       left = extended made.result front c.end.new.out (drop least buffer) made.left c.end.auto.out ∙ ap (buffer_of made.result) (take-append-drop least buffer);
     }

@@ -1,6 +1,6 @@
 use Rattle.std.proofs.Common.{[], ◌∷◌, ◌++◌, sym, ap, ◌∙◌, subst, append_assoc, append-nil, arith, length, length-append, inl, inr, refl}
 use Rattle.calls.specs.Views.{call_of}
-use Rattle.runs.specs.Channel.{channel}
+use Rattle.runs.specs.Channel.{flow_channel}
 use Rattle.runs.specs.Traces.{Trace, ◌▸◌}
 use Rattle.panel.specs.Working.{begins, goes, none, more, within, Underway}
 use Rattle.panel.specs.Panels.{buffer_of}
@@ -8,7 +8,7 @@ use Rattle.panel.proofs.Working.{goes_on, buffer_more}
 use Rattle.panel.proofs.driving.work_on.Goals as goal
 
 pub loop-init : goal.loop-init
-loop-init g c = ([], begins, omega arith, refl, λ supply before earlier u. subst (λ (h : Trace channel). Underway g.R.Rack.records supply before h c.args.panel.now) (sym (append-nil earlier)) u, none)
+loop-init g c = ([], begins, omega arith, refl, λ supply before earlier u. subst (λ (h : Trace flow_channel). Underway g.R.Rack.records supply before h c.args.panel.now) (sym (append-nil earlier)) u, none)
 
 pub loop-preserved : goal.loop-preserved
 loop-preserved g c =
@@ -20,7 +20,7 @@ loop-preserved g c =
       goes l.1 c.in-Some.ensures made.heard,
       omega (arith, length-append l.0 (event ∷ [])),
       made.left ∙ (ap (buffer_of made.result) l.3 ∙ sym (buffer_more l.0 event c.args.buffer.now)),
-      λ supply before earlier u. subst (λ (h : Trace channel). Underway g.R.Rack.records supply before h c.perform.new.panel) (append_assoc earlier l.0 (event ∷ [])) (goes_on g.R.Rack.records supply before (earlier ++ l.0) named made (l.4 supply before earlier u)),
+      λ supply before earlier u. subst (λ (h : Trace flow_channel). Underway g.R.Rack.records supply before h c.perform.new.panel) (append_assoc earlier l.0 (event ∷ [])) (goes_on g.R.Rack.records supply before (earlier ++ l.0) named made (l.4 supply before earlier u)),
       more l.5 made.does,
     )
 
