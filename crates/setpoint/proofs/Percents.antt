@@ -6,7 +6,7 @@ use Rattle.std.specs.Float.{float_is_finite, ratio_ceil}
 use Rattle.std.proofs.lemmas.Bool.{and_from, and_parts, cases_eq, false≢true, ne_eqb}
 use Rattle.std.proofs.lemmas.Bool.Decides.{nat_tests}
 use Rattle.setpoint.specs.declared.SetpointRefusal.TheVariants.{NotANumber, AboveCeiling, BelowZero}
-use Rattle.setpoint.specs.Lawful.{is_lawful}
+use Rattle.setpoint.specs.Lawful.{lawful?}
 use Rattle.setpoint.specs.LawfulLaws.{LawfulLaws}
 use Rattle.setpoint.specs.Load.{load_of}
 use Rattle.setpoint.specs.Refusals.{admitted_under}
@@ -54,7 +54,7 @@ lawful_laws p =
     let x = value_of p in
     let within = le nought x && le x hundred in
     let narrowed = λ (c : ℕ) (h : c ≤ 100). wider (is_nan x) (lt x nought) (float_is_finite x) c (load_of x) h in
-    let lawful = λ (l : is_lawful p ≡ true). narrowed 100 (omega arith) (sym (hundred_admits x) ∙ (and_parts within (not (eqb p 0x8000_0000)) l).0) in
+    let lawful = λ (l : lawful? p ≡ true). narrowed 100 (omega arith) (sym (hundred_admits x) ∙ (and_parts within (not (eqb p 0x8000_0000)) l).0) in
     record {
       loaded = λ l. (lawful l).2;
       bounded = λ l. (lawful l).1;

@@ -6,7 +6,7 @@ use Rattle.std.specs.Float.{float_is_finite}
 use Rattle.std.proofs.lemmas.Bool.{cases_eq, cases_order, lt-leb}
 use Rattle.std.proofs.lemmas.Bool.Decides.{nat_tests}
 use Rattle.setpoint.specs.declared.SetpointRefusal.TheVariants.{AboveCeiling, BelowZero}
-use Rattle.setpoint.specs.Lawful.{is_lawful}
+use Rattle.setpoint.specs.Lawful.{lawful?}
 use Rattle.setpoint.specs.Load.{load_of}
 use Rattle.setpoint.specs.Refusals.{admitted_under}
 use Rattle.setpoint.specs.Value.{value_of, nought, hundred}
@@ -38,7 +38,7 @@ percent_finite x s q k h =
 
 lawful_finite : (p q k : ℕ) → HasValue (value_of p) (negative p) (q * 2 ^ k) (2 ^ 149)
     → (p < 2 ^ 31 → load_at q k ≤ 102400 → p ≤ 0x42c8_0000) → (p ≤ 0x42c8_0000 → load_at q k ≤ 102400) → (2 ^ 31 < p → 0 < q)
-    → leb p 0x42c8_0000 ≡ is_lawful p
+    → leb p 0x42c8_0000 ≡ lawful? p
 lawful_finite p q k h above below sign =
     let n = load_at q k in
     go n above below ∙ ap (λ (b : Bool). b && not (eqb p 0x8000_0000)) (sym (percent_finite (value_of p) (negative p) q k h))
@@ -47,7 +47,7 @@ lawful_finite p q k h above below sign =
         → leb p 0x42c8_0000 ≡ ((not (negative p && ltb 0 q) && not (ltb 102400 n)) && not (eqb p 0x8000_0000))
     go n above below = grind (arith, nat_tests)
 
-lawful_other : (p : ℕ) (x : Float) → value_of p ≡ x → is_ok (admitted_under 100 x) ≡ false → 0x42c8_0000 < p → leb p 0x42c8_0000 ≡ is_lawful p
+lawful_other : (p : ℕ) (x : Float) → value_of p ≡ x → is_ok (admitted_under 100 x) ≡ false → 0x42c8_0000 < p → leb p 0x42c8_0000 ≡ lawful? p
 lawful_other p x e refused h =
     lt-leb p 0x42c8_0000 h
     ∙ sym (ap (λ (b : Bool). b && not (eqb p 0x8000_0000)) (hundred_admits (value_of p) ∙ ap (λ (z : Float). is_ok (admitted_under 100 z)) e ∙ refused))
@@ -75,7 +75,7 @@ size_at_most q k Q L = elim (cases_order k 132) [
   ]
 ]
 
-pub lawful_range : (p : ℕ) → p < 2 ^ 32 → leb p 0x42c8_0000 ≡ is_lawful p
+pub lawful_range : (p : ℕ) → p < 2 ^ 32 → leb p 0x42c8_0000 ≡ lawful? p
 lawful_range p P = elim (cases_eq (exponent p) 0) [
   | inl z ↦
       let t = fraction p in

@@ -10,7 +10,7 @@ use lib.Ieee.Order.{drop, kept, round_mono}
 use lib.Ieee.Scale.{finite, grid, round_under}
 use Rattle.std.specs.Float as Floats
 use Rattle.std.proofs.lemmas.Bool.{and_parts, false≢true, le-leb}
-use Rattle.setpoint.specs.Lawful.{is_lawful}
+use Rattle.setpoint.specs.Lawful.{lawful?}
 use Rattle.setpoint.specs.Load.{load_of}
 use Rattle.setpoint.specs.Units.{in_units, units_of}
 use Rattle.setpoint.specs.Value.{value_of, nought, hundred}
@@ -89,13 +89,13 @@ finite_number nan f = absurd (false≢true f)
 finite_number (inf s) f = tt
 finite_number (fin s m e) f = tt
 
-lawful_finite : (p : ℕ) → is_lawful p ≡ true → Floats.float_is_finite (value_of p) ≡ true
+lawful_finite : (p : ℕ) → lawful? p ≡ true → Floats.float_is_finite (value_of p) ≡ true
 lawful_finite p l = (and_parts (Floats.float_is_finite (value_of p)) (not (lt (value_of p) nought)) ((lawful_laws p).loaded l)).0
 
-pub lawful_pattern : (p : ℕ) → is_lawful p ≡ true → T (not (nan_bits binary32 p))
+pub lawful_pattern : (p : ℕ) → lawful? p ≡ true → T (not (nan_bits binary32 p))
 lawful_pattern p l = subst (λ (b : Bool). T (not b)) (sym (nan_bits_is binary32 p)) (finite_number (value_of p) (lawful_finite p l))
 
-units_finite : (p n : ℕ) → is_lawful p ≡ true → n ≤ 1000000 → Floats.float_is_finite (units_of (value_of p) n) ≡ true
+units_finite : (p n : ℕ) → lawful? p ≡ true → n ≤ 1000000 → Floats.float_is_finite (units_of (value_of p) n) ≡ true
 units_finite p n l N =
     bounded_finite (units_of (value_of p) n) (quotient (mul binary32 (value_of p) (of_int binary32 (pos n))) (product (value_of p) n N (lawful_finite p l) ((lawful_laws p).bounded l)))
 
@@ -108,14 +108,14 @@ computed_is : (p n : ℕ) → computed p n ≡ units_of (value_of p) n
 unfolding of_bits
 computed_is p n = refl
 
-pub computed_number : (p n : ℕ) → is_lawful p ≡ true → n ≤ 1000000 → T (not (is_nan (computed p n)))
+pub computed_number : (p n : ℕ) → lawful? p ≡ true → n ≤ 1000000 → T (not (is_nan (computed p n)))
 computed_number p n l N = subst (λ (z : Float). T (not (is_nan z))) (sym (computed_is p n)) (finite_number (units_of (value_of p) n) (units_finite p n l N))
 
-pub computed_finite : (p n : ℕ) → is_lawful p ≡ true → n ≤ 1000000 → Floats.float_is_finite (value_of (to_bits binary32 (computed p n))) ≡ true
+pub computed_finite : (p n : ℕ) → lawful? p ≡ true → n ≤ 1000000 → Floats.float_is_finite (value_of (to_bits binary32 (computed p n))) ≡ true
 computed_finite p n l N =
     ap Floats.float_is_finite (of_bits-to_bits binary32 (computed p n) (div-fits binary32 (mul binary32 (of_bits binary32 p) (of_int binary32 (pos n))) (of_bits binary32 1120403456)) ∙ computed_is p n) ∙ units_finite p n l N
 
-pub computed_units : (p n : ℕ) → is_lawful p ≡ true → 1 ≤ n → n ≤ 1000000 → Some (to_bits binary32 (computed p n)) ≡ in_units p n
+pub computed_units : (p n : ℕ) → lawful? p ≡ true → 1 ≤ n → n ≤ 1000000 → Some (to_bits binary32 (computed p n)) ≡ in_units p n
 computed_units p n l L N =
     let a : leb 1 n ≡ true = le-leb 1 n L in
     let b : leb n 1000000 ≡ true = le-leb n 1000000 N in

@@ -1,4 +1,4 @@
-use Rattle.std.specs.Prelude.{◌^◌, cond, not, is_nan, nat_lt, Float}
+use Rattle.std.specs.Prelude.{◌^◌, if◌then◌else◌, not, is_nan, nat_lt, Float}
 use Rattle.std.specs.Float.Ieee.{lt}
 use Rattle.std.specs.Float.{float_is_finite}
 use Rattle.setpoint.specs.declared.Setpoint.{Setpoint}
@@ -9,7 +9,8 @@ use Rattle.setpoint.specs.Load.{load_of}
 -- What a value is as a setpoint. Minus infinity is below zero, minus zero is not.
 abbrev pub setpoint_of : Float → Setpoint
 setpoint_of x =
-    cond (is_nan x) NotANumber
-    (cond (lt x nought) BelowZero
-    (cond (not (float_is_finite x)) Infinite
-    (cond (nat_lt (load_of x) (2 ^ 32)) (Load (load_of x)) Overload)))
+    if is_nan x then NotANumber
+    else if lt x nought then BelowZero
+    else if not (float_is_finite x) then Infinite
+    else if nat_lt (load_of x) (2 ^ 32) then Load (load_of x)
+    else Overload

@@ -1,17 +1,18 @@
-// A gas flow channel's setpoint: percent of full scale, held as an IEEE 754 binary32 pattern.
+//! A gas flow channel's setpoint: percent of full scale, held as an IEEE 754 binary32 pattern.
 #![tactic(auto)]
 
 ghost use Rattle.std.specs.Prelude.{◌≡◌, ◌*◌, ◌^◌, ◌<◌, ◌≤◌, true, IfSome};
 ghost use Rattle.std.specs.Float.{float_is_finite, ratio_ceil};
 ghost use Rattle.setpoint.specs.Decoding.{Decodes};
-ghost use Rattle.setpoint.specs.Lawful.{is_lawful};
+ghost use Rattle.setpoint.specs.Lawful.{lawful?};
 ghost use Rattle.setpoint.specs.LawfulLaws.{LawfulLaws};
 ghost use Rattle.setpoint.specs.Load.{fitting, fitting_load};
 ghost use Rattle.setpoint.specs.LoadLaw.{LoadLaw};
+ghost use Rattle.setpoint.specs.Numbers.{parts_of_a_percent};
 ghost use Rattle.setpoint.specs.Refusals.{admitted_under, code_of};
 ghost use Rattle.setpoint.specs.Setpoints.{setpoint_of};
 ghost use Rattle.setpoint.specs.Share.{share_of};
-ghost use Rattle.setpoint.specs.Units.{in_units, is_full_scale};
+ghost use Rattle.setpoint.specs.Units.{in_units, full_scale?};
 ghost use Rattle.setpoint.specs.Value.{value_of};
 
 // The fields of a pattern: one bit of sign, eight of exponent, 23 of fraction.
@@ -29,14 +30,17 @@ const LEADING_DIGIT: u32 = 0x80_0000;
 // The digits of a significand, the leading one counted.
 const SIGNIFICAND_DIGITS: u32 = 24;
 
-// The smallest value is 2 ^ -149, so 1 / 1,024, a load of 1, is 2 ^ 139 of them.
-const LOAD_EXPONENT: u32 = 139;
+// The binary digits of a percent that a load counts; what else is said of loads follows from it.
+const LOAD_DIGITS: u32 = 10;
+
+// The load of 1 percent: 1,024.
+const LOAD_PER_PERCENT: u32 = 1 << LOAD_DIGITS;
+
+// The smallest value is 2 ^ -149, so a load of 1 is 2 ^ 139 of them.
+const LOAD_EXPONENT: u32 = 149 - LOAD_DIGITS;
 
 // From this exponent on a load needs more than 32 bits.
-const OVERLOAD_EXPONENT: u32 = 148;
-
-// The load of 1 percent.
-const LOAD_PER_PERCENT: u32 = 1024;
+const OVERLOAD_EXPONENT: u32 = LOAD_EXPONENT + 33 - SIGNIFICAND_DIGITS;
 
 // The pattern of 100.
 const HUNDRED_PERCENT: u32 = 0x42c8_0000;
@@ -58,8 +62,10 @@ enum Binary32 {
     },
 }
 
-// What a pattern is as a setpoint. Not a `Result`: each case answers that question and none is a failure; whoever wants the load
-// alone has `load`, and whoever wants it or a refusal `admitted`.
+/// What a pattern is as a setpoint.
+///
+/// Not a `Result`: each case answers that question and none is a failure. Whoever wants the load alone has `load`, and
+/// whoever wants it or a refusal `admitted`.
 #[derive(Clone, Copy, PartialEq, Eq, Debug)]
 pub enum Setpoint {
     NotANumber,
@@ -73,7 +79,7 @@ pub enum Setpoint {
     Overload,
 }
 
-// Why a setpoint is refused, with the number that answers a refused write.
+/// Why a setpoint is refused, with the number that answers a refused write.
 #[derive(Clone, Copy, PartialEq, Eq, Debug)]
 pub enum SetpointRefusal {
     NotANumber = 2,
@@ -116,7 +122,7 @@ fn decode(pattern: u32) -> Binary32
 fn scaled(significand: u32, exponent: u32) -> Option<u32>
     requires digits { significand < 2 ^ 24 }
     requires leading { 0 < exponent → 2 ^ 23 ≤ significand }
-    ensures { result ≡ fitting (ratio_ceil (significand * 2 ^ exponent * 1024) (2 ^ 149)) }
+    ensures { result ≡ fitting (ratio_ceil (significand * 2 ^ exponent * parts_of_a_percent) (2 ^ 149)) }
 {
     if exponent < LOAD_EXPONENT {
         // Beyond all digits of the significand, more places round up to the same 0 or 1.
@@ -129,7 +135,7 @@ fn scaled(significand: u32, exponent: u32) -> Option<u32>
     }
 }
 
-// What a pattern is as a setpoint: every pattern is one of the cases.
+/// What a pattern is as a setpoint: every pattern is one of the cases.
 pub fn classify(pattern: u32) -> Setpoint
     ensures { result ≡ setpoint_of (value_of pattern) }
 {
@@ -155,7 +161,7 @@ pub fn classify(pattern: u32) -> Setpoint
     }
 }
 
-// The load of a setpoint, where it has one that fits 32 bits.
+/// The load of a setpoint, where it has one that fits 32 bits.
 pub fn load(pattern: u32) -> Option<u32>
     ensures value { result ≡ fitting_load (value_of pattern) }
     ensures least { LoadLaw (value_of pattern) }
@@ -166,7 +172,7 @@ pub fn load(pattern: u32) -> Option<u32>
     }
 }
 
-// The load of a setpoint under a ceiling in whole percent, or why the setpoint is refused.
+/// The load of a setpoint under a ceiling in whole percent, or why the setpoint is refused.
 pub fn admitted(pattern: u32, ceiling: u8) -> Result<u32, SetpointRefusal>
     ensures { result ≡ admitted_under ceiling (value_of pattern) }
 {
@@ -179,30 +185,30 @@ pub fn admitted(pattern: u32, ceiling: u8) -> Result<u32, SetpointRefusal>
     }
 }
 
-// Whether a setpoint is worth 0 to 100 percent, and is not minus zero.
+/// Whether a setpoint is worth 0 to 100 percent, and is not minus zero.
 pub fn lawful(pattern: u32) -> bool
-    ensures value { result ≡ is_lawful pattern }
+    ensures value { result ≡ lawful? pattern }
     ensures laws { LawfulLaws pattern }
 {
     // Without a sign, patterns are in the order of their values; those with one are larger numbers.
     pattern <= HUNDRED_PERCENT
 }
 
-// The share of a channel: its setpoint's load times its full scale in mL/min.
+/// The share of a channel: its setpoint's load times its full scale in mL/min.
 pub fn share(load: u32, full_scale: u32) -> u64
     ensures { result ≡ share_of load full_scale }
 {
     u64::from(load) * u64::from(full_scale)
 }
 
-// Whether a full scale, in mL/min, is one that a record may have.
+/// Whether a full scale, in mL/min, is one that a record may have.
 pub fn is_full_scale(full_scale: u32) -> bool
-    ensures { result ≡ is_full_scale full_scale }
+    ensures { result ≡ full_scale? full_scale }
 {
     matches!(full_scale, 1..=MAX_FULL_SCALE)
 }
 
-// A lawful setpoint in mL/min, as a pattern: percent times full scale, then divided by 100, each rounded once.
+/// A lawful setpoint in mL/min, as a pattern: percent times full scale, then divided by 100, each rounded once.
 pub fn in_units(pattern: u32, full_scale: u32) -> Option<u32>
     ensures value { result ≡ in_units pattern full_scale }
     ensures number { IfSome result (λ units. float_is_finite (value_of units) ≡ true) }
