@@ -1,4 +1,4 @@
-// Packed text: four letters, 20 to 5F hexadecimal, in three bytes, six bits each, the first letter highest.
+//! Packed text: four letters, 20 to 5F hexadecimal, in three bytes, six bits each, the first letter highest.
 #![tactic(auto)]
 
 ghost use Rattle.std.specs.Prelude.{◌≡◌, ℕ, ◌/◌, ◌^◌, ◌<◌, true, List, length, take, IfOk, refl};
@@ -9,8 +9,8 @@ ghost use Rattle.text.specs.Text.{six_bits, letter_of, letters?, text?, packed?,
 
 use refusals::Refusal;
 
-// Packs `text` into the front of `out` and answers how many bytes it wrote: 110 unless the text is letters in groups of
-// four, then 102 where `out` is too short.
+/// Packs `text` into the front of `out` and answers how many bytes it wrote: 110 unless the text is letters in groups of
+/// four, then 102 where `out` is too short.
 pub fn pack(text: &[u8], out: &mut [u8]) -> Result<usize, Refusal>
     ensures fills { Fills (text? text.now) (packed text.now) out.old (numbered result) out.new }
     ensures back { IfOk result (λ n. ReadsBack text.now (take n out.new)) }
@@ -21,8 +21,8 @@ pub fn pack(text: &[u8], out: &mut [u8]) -> Result<usize, Refusal>
     regroup::<4, 3, Packing>(text, out)
 }
 
-// Unpacks `packed` into the front of `out` and answers how many letters it wrote: 110 unless the bytes come in groups of
-// three, then 102 where `out` is too short.
+/// Unpacks `packed` into the front of `out` and answers how many letters it wrote: 110 unless the bytes come in groups of
+/// three, then 102 where `out` is too short.
 pub fn unpack(packed: &[u8], out: &mut [u8]) -> Result<usize, Refusal>
     ensures fills { Fills (packed? packed.now) (unpacked packed.now) out.old (numbered result) out.new }
     ensures back { IfOk result (λ n. PacksAgain packed.now (take n out.new)) }
