@@ -83,6 +83,6 @@ module _ {X : Type 0} (records : X → List Record) (supply : ℕ) where
         supply_is = made.does.keeps ∙ u.supply_is;
         pending = pending;
         ran = ran;
-        promised = promised supply before (records p'.rack) after line u.set_up ran;
+        promised = promised supply before (records p'.rack) after pending u.set_up ran;
         holds = made.does.holds u.pending u.holds;
       }
