@@ -5,6 +5,7 @@ use lib.Ieee.Exact.{HasValue}
 use lib.Ieee.Fits.{down_pos}
 use Rattle.std.specs.Float.{float_is_finite, ratio_ceil}
 use Rattle.std.proofs.lemmas.Bool.{and_left, and_right, lt-ltb, le-ltb}
+use Rattle.setpoint.specs.Numbers.{parts_of_a_percent}
 use Rattle.setpoint.specs.declared.Setpoint.{Setpoint}
 use Rattle.setpoint.specs.declared.Setpoint.TheVariants.{NotANumber, BelowZero, Infinite, Load, Overload}
 use Rattle.setpoint.specs.Load.{fitting, load_of}
@@ -32,7 +33,7 @@ same_sign a b c d B D e = elim (eq-zero-or-pos c) [
 -- ---- a value with the sign s and the size q * 2 ^ k / 2 ^ 149
 
 abbrev pub load_at : ℕ → ℕ → ℕ
-load_at q k = ratio_ceil (q * 2 ^ k * 1024) (2 ^ 149)
+load_at q k = ratio_ceil (q * 2 ^ k * parts_of_a_percent) (2 ^ 149)
 
 abbrev pub loaded : Option ℕ → Setpoint
 loaded (Some n) = Load n
@@ -49,8 +50,8 @@ pub finite_load : (x : Float) (s : Bool) (q k : ℕ) → HasValue x s (q * 2 ^ k
 finite_load nan s q k h = absurd h
 finite_load (inf t) s q k h = absurd h
 finite_load (fin t m e) s q k h =
-    raised_same (m * up e * 1024) (down e) (q * 2 ^ k * 1024) (2 ^ 149) (down_pos e) (omega arith)
-    (mul_right_comm (m * up e) 1024 (2 ^ 149) ∙ ap (λ (z : ℕ). z * 1024) h.1 ∙ mul_right_comm (q * 2 ^ k) (down e) 1024)
+    raised_same (m * up e * parts_of_a_percent) (down e) (q * 2 ^ k * parts_of_a_percent) (2 ^ 149) (down_pos e) (omega arith)
+    (mul_right_comm (m * up e) parts_of_a_percent (2 ^ 149) ∙ ap (λ (z : ℕ). z * parts_of_a_percent) h.1 ∙ mul_right_comm (q * 2 ^ k) (down e) parts_of_a_percent)
 
 pub finite_below : (x : Float) (s : Bool) (q k : ℕ) → HasValue x s (q * 2 ^ k) (2 ^ 149) → lt x nought ≡ (s && ltb 0 q)
 finite_below nan s q k h = absurd h

@@ -4,6 +4,7 @@ use lib.Ieee.{Float, nan, inf, fin, is_nan, lt, up, down}
 use lib.Ieee.Fits.{down_pos}
 use Rattle.std.specs.Float.{float_is_finite}
 use Rattle.std.proofs.lemmas.Bool.{false≢true}
+use Rattle.setpoint.specs.Numbers.{parts_of_a_percent}
 use Rattle.setpoint.specs.declared.Setpoint.{Setpoint}
 use Rattle.setpoint.specs.declared.Setpoint.TheVariants.{NotANumber, BelowZero, Infinite, Load, Overload}
 use Rattle.setpoint.specs.Load.{fitting_load, load_of}
@@ -16,7 +17,7 @@ pub load_law : (x : Float) → LoadLaw x
 unfolding float_is_finite
 load_law nan l = absurd (false≢true l)
 load_law (inf s) l = absurd (false≢true l)
-load_law (fin s m e) l = (raised_covers (m * up e * 1024) (down e) (down_pos e), λ k h. raised_least (m * up e * 1024) (down e) k (down_pos e) h)
+load_law (fin s m e) l = (raised_covers (m * up e * parts_of_a_percent) (down e) (down_pos e), λ k h. raised_least (m * up e * parts_of_a_percent) (down e) k (down_pos e) h)
 
 abbrev load_in : Setpoint → Option ℕ
 load_in NotANumber = None

@@ -5,6 +5,7 @@ use lib.Ieee.Exact.{HasValue}
 use Rattle.std.specs.Float.{float_is_finite}
 use Rattle.std.proofs.lemmas.Bool.{cases_eq, cases_order, lt-leb}
 use Rattle.std.proofs.lemmas.Bool.Decides.{nat_tests}
+use Rattle.setpoint.specs.Numbers.{full_load, minus_zero}
 use Rattle.setpoint.specs.declared.SetpointRefusal.TheVariants.{AboveCeiling, BelowZero}
 use Rattle.setpoint.specs.Lawful.{lawful?}
 use Rattle.setpoint.specs.Load.{load_of}
@@ -16,41 +17,41 @@ use Rattle.setpoint.proofs.Percents.{at_most, load_at_most, hundred_admits}
 
 -- ---- a value with the sign s and the size q * 2 ^ k / 2 ^ 149
 
-admits_finite : (x : Float) (s : Bool) (a c : ℕ) → HasValue x s a c → is_ok (admitted_under 100 x) ≡ (not (lt x nought) && not (ltb 102400 (load_of x)))
+admits_finite : (x : Float) (s : Bool) (a c : ℕ) → HasValue x s a c → is_ok (admitted_under 100 x) ≡ (not (lt x nought) && not (ltb full_load (load_of x)))
 unfolding is_nan float_is_finite
 admits_finite nan s a c h = absurd h
 admits_finite (inf t) s a c h = absurd h
-admits_finite (fin t m e) s a c h = go (lt (fin t m e) nought) (ltb 102400 (load_of (fin t m e)))
+admits_finite (fin t m e) s a c h = go (lt (fin t m e) nought) (ltb full_load (load_of (fin t m e)))
   where
     go : (b o : Bool) → is_ok (cond b (Err BelowZero) (cond o (Err AboveCeiling) (Ok (load_of (fin t m e))))) ≡ (not b && not o)
     go true o = refl
     go false true = refl
     go false false = refl
 
-percent_finite : (x : Float) (s : Bool) (q k : ℕ) → HasValue x s (q * 2 ^ k) (2 ^ 149) → (le nought x && le x hundred) ≡ (not (s && ltb 0 q) && not (ltb 102400 (load_at q k)))
+percent_finite : (x : Float) (s : Bool) (q k : ℕ) → HasValue x s (q * 2 ^ k) (2 ^ 149) → (le nought x && le x hundred) ≡ (not (s && ltb 0 q) && not (ltb full_load (load_at q k)))
 percent_finite x s q k h =
     hundred_admits x
     ∙ admits_finite x s (q * 2 ^ k) (2 ^ 149) h
-    ∙ ap (λ (b : Bool). not b && not (ltb 102400 (load_of x))) (finite_below x s q k h)
-    ∙ ap (λ (n : ℕ). not (s && ltb 0 q) && not (ltb 102400 n)) (finite_load x s q k h)
+    ∙ ap (λ (b : Bool). not b && not (ltb full_load (load_of x))) (finite_below x s q k h)
+    ∙ ap (λ (n : ℕ). not (s && ltb 0 q) && not (ltb full_load n)) (finite_load x s q k h)
 
 -- ---- the patterns from 00000000 to 42C80000 hexadecimal
 
 lawful_finite : (p q k : ℕ) → HasValue (value_of p) (negative p) (q * 2 ^ k) (2 ^ 149)
-    → (p < 2 ^ 31 → load_at q k ≤ 102400 → p ≤ 0x42c8_0000) → (p ≤ 0x42c8_0000 → load_at q k ≤ 102400) → (2 ^ 31 < p → 0 < q)
+    → (p < 2 ^ 31 → load_at q k ≤ full_load → p ≤ 0x42c8_0000) → (p ≤ 0x42c8_0000 → load_at q k ≤ full_load) → (2 ^ 31 < p → 0 < q)
     → leb p 0x42c8_0000 ≡ lawful? p
 lawful_finite p q k h above below sign =
     let n = load_at q k in
-    go n above below ∙ ap (λ (b : Bool). b && not (eqb p 0x8000_0000)) (sym (percent_finite (value_of p) (negative p) q k h))
+    go n above below ∙ ap (λ (b : Bool). b && not (eqb p minus_zero)) (sym (percent_finite (value_of p) (negative p) q k h))
   where
-    go : (n : ℕ) → (p < 2 ^ 31 → n ≤ 102400 → p ≤ 0x42c8_0000) → (p ≤ 0x42c8_0000 → n ≤ 102400)
-        → leb p 0x42c8_0000 ≡ ((not (negative p && ltb 0 q) && not (ltb 102400 n)) && not (eqb p 0x8000_0000))
+    go : (n : ℕ) → (p < 2 ^ 31 → n ≤ full_load → p ≤ 0x42c8_0000) → (p ≤ 0x42c8_0000 → n ≤ full_load)
+        → leb p 0x42c8_0000 ≡ ((not (negative p && ltb 0 q) && not (ltb full_load n)) && not (eqb p minus_zero))
     go n above below = grind (arith, nat_tests)
 
 lawful_other : (p : ℕ) (x : Float) → value_of p ≡ x → is_ok (admitted_under 100 x) ≡ false → 0x42c8_0000 < p → leb p 0x42c8_0000 ≡ lawful? p
 lawful_other p x e refused h =
     lt-leb p 0x42c8_0000 h
-    ∙ sym (ap (λ (b : Bool). b && not (eqb p 0x8000_0000)) (hundred_admits (value_of p) ∙ ap (λ (z : Float). is_ok (admitted_under 100 z)) e ∙ refused))
+    ∙ sym (ap (λ (b : Bool). b && not (eqb p minus_zero)) (hundred_admits (value_of p) ∙ ap (λ (z : Float). is_ok (admitted_under 100 z)) e ∙ refused))
 
 infinite_refused : (s : Bool) → is_ok (admitted_under 100 (inf s)) ≡ false
 unfolding is_nan lt float_is_finite

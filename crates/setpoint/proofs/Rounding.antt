@@ -12,6 +12,7 @@ use Rattle.std.specs.Float as Floats
 use Rattle.std.proofs.lemmas.Bool.{and_parts, false≢true, le-leb}
 use Rattle.setpoint.specs.Lawful.{lawful?}
 use Rattle.setpoint.specs.Load.{load_of}
+use Rattle.setpoint.specs.Numbers.{full_load, most_full_scale}
 use Rattle.setpoint.specs.Units.{in_units, units_of}
 use Rattle.setpoint.specs.Value.{value_of, nought, hundred}
 use Rattle.setpoint.proofs.Percents.{at_most, lawful_laws}
@@ -49,17 +50,17 @@ round_bounded s a b c d B D h F =
 
 -- ---- the product
 
-product_of : (s : Bool) (m : ℕ) (e : ℤ) (y : Float) (n : ℕ) → HasValue y false n 1 → n ≤ 1000000 → m * up e ≤ 100 * down e → Bounded (mul binary32 (fin s m e) y)
+product_of : (s : Bool) (m : ℕ) (e : ℤ) (y : Float) (n : ℕ) → HasValue y false n 1 → n ≤ most_full_scale → m * up e ≤ 100 * down e → Bounded (mul binary32 (fin s m e) y)
 unfolding mul
 product_of s m e nan n v N h = absurd v
 product_of s m e (inf t) n v N h = absurd v
 product_of s m e (fin t k d) n v N h =
-    let g : k * up d ≤ 1000000 * down d = le_trans (omega (arith, v.1)) (mul-le-mul_right (down d) N) in
-    let p : m * up e * (k * up d) ≤ 100 * down e * (1000000 * down d) = mul-le-mul h g in
+    let g : k * up d ≤ most_full_scale * down d = le_trans (omega (arith, v.1)) (mul-le-mul_right (down d) N) in
+    let p : m * up e * (k * up d) ≤ 100 * down e * (most_full_scale * down d) = mul-le-mul h g in
     round_bounded (unlike s t) (m * up e * (k * up d)) (down e * down d) 100000000 1 (mul-pos (down_pos e) (down_pos d)) (omega arith)
-    (omega (arith, p, mul-mul-mul_comm 100 (down e) 1000000 (down d))) (unfold round in tt)
+    (omega (arith, p, mul-mul-mul_comm 100 (down e) most_full_scale (down d))) (unfold round in tt)
 
-product : (x : Float) (n : ℕ) → n ≤ 1000000 → Floats.float_is_finite x ≡ true → load_of x ≤ 102400 → Bounded (mul binary32 x (of_int binary32 (pos n)))
+product : (x : Float) (n : ℕ) → n ≤ most_full_scale → Floats.float_is_finite x ≡ true → load_of x ≤ full_load → Bounded (mul binary32 x (of_int binary32 (pos n)))
 unfolding Floats.float_is_finite of_int
 product nan n N f h = absurd (false≢true f)
 product (inf s) n N f h = absurd (false≢true f)
@@ -95,7 +96,7 @@ lawful_finite p l = (and_parts (Floats.float_is_finite (value_of p)) (not (lt (v
 pub lawful_pattern : (p : ℕ) → lawful? p ≡ true → T (not (nan_bits binary32 p))
 lawful_pattern p l = subst (λ (b : Bool). T (not b)) (sym (nan_bits_is binary32 p)) (finite_number (value_of p) (lawful_finite p l))
 
-units_finite : (p n : ℕ) → lawful? p ≡ true → n ≤ 1000000 → Floats.float_is_finite (units_of (value_of p) n) ≡ true
+units_finite : (p n : ℕ) → lawful? p ≡ true → n ≤ most_full_scale → Floats.float_is_finite (units_of (value_of p) n) ≡ true
 units_finite p n l N =
     bounded_finite (units_of (value_of p) n) (quotient (mul binary32 (value_of p) (of_int binary32 (pos n))) (product (value_of p) n N (lawful_finite p l) ((lawful_laws p).bounded l)))
 
@@ -108,15 +109,15 @@ computed_is : (p n : ℕ) → computed p n ≡ units_of (value_of p) n
 unfolding of_bits
 computed_is p n = refl
 
-pub computed_number : (p n : ℕ) → lawful? p ≡ true → n ≤ 1000000 → T (not (is_nan (computed p n)))
+pub computed_number : (p n : ℕ) → lawful? p ≡ true → n ≤ most_full_scale → T (not (is_nan (computed p n)))
 computed_number p n l N = subst (λ (z : Float). T (not (is_nan z))) (sym (computed_is p n)) (finite_number (units_of (value_of p) n) (units_finite p n l N))
 
-pub computed_finite : (p n : ℕ) → lawful? p ≡ true → n ≤ 1000000 → Floats.float_is_finite (value_of (to_bits binary32 (computed p n))) ≡ true
+pub computed_finite : (p n : ℕ) → lawful? p ≡ true → n ≤ most_full_scale → Floats.float_is_finite (value_of (to_bits binary32 (computed p n))) ≡ true
 computed_finite p n l N =
     ap Floats.float_is_finite (of_bits-to_bits binary32 (computed p n) (div-fits binary32 (mul binary32 (of_bits binary32 p) (of_int binary32 (pos n))) (of_bits binary32 1120403456)) ∙ computed_is p n) ∙ units_finite p n l N
 
-pub computed_units : (p n : ℕ) → lawful? p ≡ true → 1 ≤ n → n ≤ 1000000 → Some (to_bits binary32 (computed p n)) ≡ in_units p n
+pub computed_units : (p n : ℕ) → lawful? p ≡ true → 1 ≤ n → n ≤ most_full_scale → Some (to_bits binary32 (computed p n)) ≡ in_units p n
 computed_units p n l L N =
     let a : leb 1 n ≡ true = le-leb 1 n L in
-    let b : leb n 1000000 ≡ true = le-leb n 1000000 N in
+    let b : leb n most_full_scale ≡ true = le-leb n most_full_scale N in
     ap (λ (z : Float). Some (to_bits binary32 z)) (computed_is p n) ∙ rw (l, a, b) refl
