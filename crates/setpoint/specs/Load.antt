@@ -21,6 +21,10 @@ has_load? x = float_is_finite x && not (lt x nought)
 abbrev pub fitting : ℕ → Option ℕ
 fitting n = if nat_lt n (2 ^ 32) then Some n else None
 
+-- The load of the size significand * 2 ^ (exponent - 149), where it fits 32 bits.
+abbrev pub size_load : ℕ → ℕ → Option ℕ
+size_load significand exponent = fitting (ratio_ceil (significand * 2 ^ exponent * parts_of_a_percent) (2 ^ 149))
+
 -- The load of a value that has one and whose load fits 32 bits.
 abbrev pub fitting_load : Float → Option ℕ
 fitting_load x = if has_load? x then fitting (load_of x) else None

@@ -1,14 +1,13 @@
 //! A gas flow channel's setpoint: percent of full scale, held as an IEEE 754 binary32 pattern.
 #![tactic(auto)]
 
-ghost use Rattle.std.specs.Prelude.{◌≡◌, ◌*◌, ◌^◌, ◌<◌, ◌≤◌, true, IfSome};
-ghost use Rattle.std.specs.Float.{float_is_finite, ratio_ceil};
+ghost use Rattle.std.specs.Prelude.{◌≡◌, ◌^◌, ◌<◌, ◌≤◌, true, IfSome};
+ghost use Rattle.std.specs.Float.{float_is_finite};
 ghost use Rattle.setpoint.specs.Decoding.{Decodes};
 ghost use Rattle.setpoint.specs.Lawful.{lawful?};
 ghost use Rattle.setpoint.specs.LawfulLaws.{LawfulLaws};
-ghost use Rattle.setpoint.specs.Load.{fitting, fitting_load};
+ghost use Rattle.setpoint.specs.Load.{size_load, fitting_load};
 ghost use Rattle.setpoint.specs.LoadLaw.{LoadLaw};
-ghost use Rattle.setpoint.specs.Numbers.{parts_of_a_percent};
 ghost use Rattle.setpoint.specs.Refusals.{admitted_under, code_of};
 ghost use Rattle.setpoint.specs.Setpoints.{setpoint_of};
 ghost use Rattle.setpoint.specs.Share.{share_of};
@@ -122,7 +121,7 @@ fn decode(pattern: u32) -> Binary32
 fn scaled(significand: u32, exponent: u32) -> Option<u32>
     requires digits { significand < 2 ^ 24 }
     requires leading { 0 < exponent → 2 ^ 23 ≤ significand }
-    ensures { result ≡ fitting (ratio_ceil (significand * 2 ^ exponent * parts_of_a_percent) (2 ^ 149)) }
+    ensures { result ≡ size_load significand exponent }
 {
     if exponent < LOAD_EXPONENT {
         // Beyond all digits of the significand, more places round up to the same 0 or 1.
