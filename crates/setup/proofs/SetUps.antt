@@ -1,12 +1,13 @@
 -- No two channels have the same identity exactly where the channels are distinct.
-use Rattle.std.proofs.Common.{◌≡◌, ℕ, suc, true, false, List, [], ◌∷◌, sym, refl, ap, arith}
-use Rattle.std.proofs.lemmas.Bool.{both_ways, or_parts, or_from, false_from_ne_true}
+use Rattle.std.proofs.Common.{◌≡◌, ℕ, suc, true, false, List, [], ◌∷◌, length, None, sym, refl, ap, arith}
+use Rattle.std.proofs.lemmas.Bool.{le-leb, le-ltb, both_ways, or_parts, or_from, false_from_ne_true}
 use Rattle.std.proofs.lemmas.Bool.Decides.{nat_tests}
 use Rattle.record.specs.declared.Fields.{Fields}
 use Rattle.record.specs.declared.Record.{Record}
 use Rattle.runs.specs.Places.{At, here, there}
-use Rattle.runs.specs.SetUps.{Distinct}
-use Rattle.setup.specs.SetUps.{same_identity?, among?, any_same_identity?}
+use Rattle.header.specs.Shares.{capacity_of, total_share}
+use Rattle.runs.specs.SetUps.{Distinct, SetUp}
+use Rattle.setup.specs.SetUps.{same_identity?, among?, any_same_identity?, set_up_refusal}
 
 -- the same device type and identification number
 abbrev Same : Fields → Fields → Type 0
@@ -45,3 +46,7 @@ none_same (x ∷ records) d =
     or_from (among? x.fields records) (any_same_identity? records)
     (none_among x.fields records (λ k r a s. let z : 0 ≡ suc k = d 0 (suc k) x r here (there a) s.0 s.1 in omega arith))
     (none_same records (λ j k q r a b s t. let z : suc j ≡ suc k = d (suc j) (suc k) q r (there a) (there b) s t in omega arith))
+
+-- a set-up that is to be taken is not refused
+pub unrefused : (supply : ℕ) (records : List Record) → SetUp supply records → set_up_refusal supply records ≡ None
+unrefused supply records s = rw (le-ltb 15000000 supply s.supplied, le-ltb 15 (length records) s.few, none_same records s.distinct, le-leb (total_share records) (capacity_of supply) s.fits) refl

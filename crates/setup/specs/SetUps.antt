@@ -1,10 +1,14 @@
 -- Why a set-up is refused.
-use Rattle.std.specs.Prelude.{ℕ, Bool, false, cond, ◌&&◌, ◌||◌, List, [], ◌∷◌, length, drop, Some, None, Option, ◌+◌, ◌==◌, nat_le, nat_lt}
+use Rattle.std.specs.Prelude.{ℕ, Bool, false, if◌then◌else◌, ◌&&◌, ◌||◌, List, [], ◌∷◌, length, drop, Some, None, Option, Result, ◌+◌, ◌==◌, nat_le, nat_lt}
 use Rattle.std.specs.List.{list_any}
+use Rattle.std.specs.Option.{option_map}
+use Rattle.std.specs.Result.{result_err}
 use Rattle.header.specs.Shares.{total_share, fits?}
 use Rattle.rack.specs.Meaning.{channel_of}
 use Rattle.record.specs.declared.Fields.{Fields}
 use Rattle.record.specs.declared.Record.{Record}
+use Rattle.refusals.specs.Refusals.{number_of}
+use Rattle.refusals.specs.declared.Refusal.{Refusal}
 
 -- The identity of a channel is its device type and its identification number.
 abbrev pub same_identity? : Fields → Fields → Bool
@@ -35,15 +39,28 @@ abbrev pub any_same_identity? : List Record → Bool
 any_same_identity? [] = false
 any_same_identity? (r ∷ records) = among? r.fields records || any_same_identity? records
 
--- whether the channels are at most 15 and their shares fit
-abbrev pub shares_fit? : ℕ → List Record → Bool
-shares_fit? supply records = nat_le (length records) 15 && fits? supply (total_share records)
+-- the largest supply that a header gives, in mL/min
+abbrev pub largest_supply : ℕ
+largest_supply = 15000000
 
--- The number by which a set-up is refused, if it is. Tried in this order: the supply is above 15,000,000 mL/min, there are more
--- than 15 channels, two have the same identity, the shares do not fit.
+-- the most channels of a panel
+abbrev pub most_channels : ℕ
+most_channels = 15
+
+-- whether the channels are not too many and their shares fit
+abbrev pub shares_fit? : ℕ → List Record → Bool
+shares_fit? supply records = nat_le (length records) most_channels && fits? supply (total_share records)
+
+-- the number by which a call is refused, if it is
+abbrev pub refusal_in : Result (Unit {0}) Refusal → Option ℕ
+refusal_in result = option_map number_of (result_err result)
+
+-- The number by which a set-up is refused, if it is. Tried in this order: the supply is above the largest, there are too many
+-- channels, two have the same identity, the shares do not fit.
 abbrev pub set_up_refusal : ℕ → List Record → Option ℕ
 set_up_refusal supply records =
-    cond (nat_lt 15000000 supply) (Some 107)
-    (cond (nat_lt 15 (length records)) (Some 104)
-    (cond (any_same_identity? records) (Some 105)
-    (cond (fits? supply (total_share records)) None (Some 106))))
+    if nat_lt largest_supply supply then Some 107
+    else if nat_lt most_channels (length records) then Some 104
+    else if any_same_identity? records then Some 105
+    else if fits? supply (total_share records) then None
+    else Some 106

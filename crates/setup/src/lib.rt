@@ -1,24 +1,21 @@
-// Whether a set-up, a rack of channels under a supply, is taken.
+//! Whether a set-up, a rack of channels under a supply, is taken.
 #![tactic(auto)]
 
 ghost use Rattle.std.specs.Prelude.{◌≡◌, ◌≤◌, length, drop, IsOk, OnOk};
-ghost use Rattle.std.specs.Option.{option_map};
-ghost use Rattle.std.specs.Result.{result_err};
-ghost use Rattle.refusals.specs.Refusals.{number_of};
 ghost use Rattle.runs.specs.SetUps.{SetUp};
-ghost use Rattle.setup.specs.SetUps.{identity_at?, among?, same_identity_later?, any_same_identity?, shares_fit?, set_up_refusal};
+ghost use Rattle.setup.specs.SetUps.{identity_at?, among?, same_identity_later?, any_same_identity?, most_channels, shares_fit?, refusal_in, set_up_refusal};
 
 use rack::{MAX_CHANNELS, Rack};
 use record::Fields;
 use refusals::Refusal;
 
-// The largest supply that a header gives, in mL/min.
+/// The largest supply that a header gives, in mL/min.
 pub const MAX_SUPPLY: u32 = 15_000_000;
 
-// Whether the set-up of a rack under a supply, in mL/min, is taken: exactly where `SetUp` holds. The first refusal that applies:
-// supply, number of records, identities, shares.
+/// Whether the set-up of a rack under a supply, in mL/min, is taken: exactly where `SetUp` holds. The first refusal that applies:
+/// supply, number of records, identities, shares.
 pub fn check<R: Rack>(rack: &R, supply: u32) -> Result<(), Refusal>
-    ensures value { option_map number_of (result_err result) ≡ set_up_refusal supply (R.Rack.records rack.now) }
+    ensures value { refusal_in result ≡ set_up_refusal supply (R.Rack.records rack.now) }
     ensures taken { OnOk result (SetUp supply (R.Rack.records rack.now)) }
     ensures exact { SetUp supply (R.Rack.records rack.now) → IsOk result }
 {
@@ -47,7 +44,7 @@ fn shares_fit<R: Rack>(rack: &R, supply: u32) -> bool
 // Whether some two channels have the same identity. Of a rack of at most 15 channels, as the two below: a type for such a rack
 // would be a rack again, with all its methods.
 fn any_same_identity<R: Rack>(rack: &R) -> bool
-    requires { length (R.Rack.records rack.now) ≤ 15 }
+    requires { length (R.Rack.records rack.now) ≤ most_channels }
     ensures { result ≡ any_same_identity? (R.Rack.records rack.now) }
 {
     (0..rack.count()).any(|channel| has_same_identity_later(rack, channel))
@@ -55,7 +52,7 @@ fn any_same_identity<R: Rack>(rack: &R) -> bool
 
 // Whether a later channel has the identity of this one.
 fn has_same_identity_later<R: Rack>(rack: &R, channel: u8) -> bool
-    requires { length (R.Rack.records rack.now) ≤ 15 }
+    requires { length (R.Rack.records rack.now) ≤ most_channels }
     ensures { result ≡ same_identity_later? (R.Rack.records rack.now) channel }
 {
     rack.fields(channel)
@@ -64,7 +61,7 @@ fn has_same_identity_later<R: Rack>(rack: &R, channel: u8) -> bool
 
 // Whether some channel from this one on has the identity of these fields.
 fn has_identity_from<R: Rack>(rack: &R, channel: u8, fields: Fields) -> bool
-    requires { length (R.Rack.records rack.now) ≤ 15 }
+    requires { length (R.Rack.records rack.now) ≤ most_channels }
     ensures { result ≡ among? fields (drop channel (R.Rack.records rack.now)) }
 {
     (channel..rack.count()).any(|later| has_identity(rack, later, fields))
