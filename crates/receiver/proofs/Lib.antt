@@ -1,2 +1,3 @@
 pub mod Receptions
 pub mod Holding
+pub mod Pending

@@ -8,19 +8,19 @@ use Rattle.line.specs.Characters.{Character, Reception, received}
 use Rattle.receiver.specs.Summaries.{Summary, summary_of, more, pushed}
 
 -- a transmission with one preamble more in front
-abbrev bump : Reception → Reception
+abbrev pub bump : Reception → Reception
 bump x = record { preambles = suc x.preambles; span = x.span; marks = x.marks }
 
-preamble_first : (d : Character) (t : List Character) → eqb d.byte 255 ≡ true → received (d ∷ t) ≡ bump (received t)
+pub preamble_first : (d : Character) (t : List Character) → eqb d.byte 255 ≡ true → received (d ∷ t) ≡ bump (received t)
 preamble_first d t e = rw (e, add_comm 1, add-one) refl
 
-abbrev whole : List Character → Reception
+abbrev pub whole : List Character → Reception
 whole t = record { preambles = 0; span = map (λ c. c.byte) t; marks = fold bit_or 0 (map (λ c. c.marks) t) }
 
-start_first : (d : Character) (t : List Character) → eqb d.byte 255 ≡ false → received (d ∷ t) ≡ whole (d ∷ t)
+pub start_first : (d : Character) (t : List Character) → eqb d.byte 255 ≡ false → received (d ∷ t) ≡ whole (d ∷ t)
 start_first d t e = rw e refl
 
-alike : {p q : ℕ} {s u : List ℕ} {m n : ℕ} → p ≡ q → s ≡ u → m ≡ n → ◌≡◌ {A = Reception} (record { preambles = p; span = s; marks = m }) (record { preambles = q; span = u; marks = n })
+pub alike : {p q : ℕ} {s u : List ℕ} {m n : ℕ} → p ≡ q → s ≡ u → m ≡ n → ◌≡◌ {A = Reception} (record { preambles = p; span = s; marks = m }) (record { preambles = q; span = u; marks = n })
 alike a b c = rw (a, b, c) refl
 
 bump_more : (x : Reception) (c : Character) → bump (more x c) ≡ more (bump x) c
@@ -44,7 +44,7 @@ received_more (d ∷ t) c = elim (cases_Bool (eqb d.byte 255)) [
   | inr e ↦ start_first d (t ++ (c ∷ [])) e ∙ (whole_more d t c ∙ ap (λ x. more x c) (sym (start_first d t e)))
 ]
 
-summed : {p q : ℕ} {s u : List ℕ} {o v : Bool} {m n : ℕ} → p ≡ q → s ≡ u → o ≡ v → m ≡ n → ◌≡◌ {A = Summary} (record { preambles = p; span = s; overlong = o; marks = m }) (record { preambles = q; span = u; overlong = v; marks = n })
+pub summed : {p q : ℕ} {s u : List ℕ} {o v : Bool} {m n : ℕ} → p ≡ q → s ≡ u → o ≡ v → m ≡ n → ◌≡◌ {A = Summary} (record { preambles = p; span = s; overlong = o; marks = m }) (record { preambles = q; span = u; overlong = v; marks = n })
 summed a b c d = rw (a, b, c, d) refl
 
 none_kept : (xs : List ℕ) → eqb (length (take 264 xs)) 0 ≡ eqb (length xs) 0

@@ -1,7 +1,8 @@
 -- What a receiver keeps of the characters of a transmission.
-use Rattle.std.specs.Prelude.{ℕ, ◌+◌, min, Bool, true, cond, ◌&&◌, List, [], ◌∷◌, ◌++◌, length, take, Some, None, Option, ◌==◌, bit_or, nat_lt}
-use Rattle.std.specs.Option.{is_none, unwrap_or}
+use Rattle.std.specs.Prelude.{ℕ, ◌+◌, min, Bool, true, ◌&&◌, List, [], ◌∷◌, ◌++◌, length, take, Some, None, Option, ◌==◌, bit_or, nat_lt, if◌then◌else◌}
+use Rattle.std.specs.Option.{is_none}
 use Rattle.line.specs.Characters.{Character, Reception}
+use Rattle.receiver.specs.Spans.{longest_span, counted_preambles, kept_length}
 use Rattle.receiver.specs.declared.state.Receiver.{Receiver}
 
 -- Two preambles are as good as more, and of the bytes from the start on 264 are kept: a longer transmission is not whole.
@@ -12,27 +13,39 @@ pub record Summary : Type 0 where
   pub marks : ℕ
 
 abbrev pub summary_of : Reception → Summary
-summary_of x = record { preambles = min x.preambles 2; span = take 264 x.span; overlong = nat_lt 264 (length x.span); marks = x.marks }
+summary_of x = record {
+  preambles = min x.preambles counted_preambles;
+  span = take longest_span x.span;
+  overlong = nat_lt longest_span (length x.span);
+  marks = x.marks;
+}
 
 -- one character more: a preamble while the start has not come, else a byte of the span
 abbrev pub more : Reception → Character → Reception
 more x c =
-    cond (length x.span == 0 && c.byte == 255)
-    (record { preambles = x.preambles + 1; span = x.span; marks = x.marks })
-    (record { preambles = x.preambles; span = x.span ++ c.byte ∷ []; marks = bit_or x.marks c.marks })
+    if length x.span == 0 && c.byte == 0xff
+    then record x { preambles = x.preambles + 1 }
+    else record x { span = x.span ++ c.byte ∷ []; marks = bit_or x.marks c.marks }
 
 abbrev pub pushed : Summary → Character → Summary
 pushed s c =
-    cond (length s.span == 0 && c.byte == 255)
-    (record { preambles = min (s.preambles + 1) 2; span = s.span; overlong = s.overlong; marks = s.marks })
-    (cond (nat_lt (length s.span) 264)
-    (record { preambles = s.preambles; span = s.span ++ c.byte ∷ []; overlong = s.overlong; marks = bit_or s.marks c.marks })
-    (record { preambles = s.preambles; span = s.span; overlong = true; marks = bit_or s.marks c.marks }))
+    if length s.span == 0 && c.byte == 0xff
+    then record s { preambles = min (s.preambles + 1) counted_preambles }
+    else (if nat_lt (length s.span) longest_span
+    then record s { span = s.span ++ c.byte ∷ []; marks = bit_or s.marks c.marks }
+    else record s { overlong = true; marks = bit_or s.marks c.marks })
 
 -- what the receiver of the code holds: all its bytes, where more came
 abbrev pub held : Receiver → Summary
-held r = record { preambles = r.preambles; span = take (unwrap_or r.len 264) r.bytes; overlong = is_none r.len; marks = r.marks }
+held r = record {
+  preambles = r.preambles;
+  span = take (kept_length r.len) r.bytes;
+  overlong = is_none r.len;
+  marks = r.marks;
+}
 
 -- what is handed on of a transmission that is not too long
 abbrev pub reception : Summary → Option Reception
-reception s = cond s.overlong None (Some (record { preambles = s.preambles; span = s.span; marks = s.marks }))
+reception s =
+    if s.overlong then None
+    else Some (record { preambles = s.preambles; span = s.span; marks = s.marks })

@@ -1,4 +1,4 @@
-// The receiver of a panel: the characters of one transmission, in fixed memory.
+//! The receiver of a panel: the characters of one transmission, in fixed memory.
 #![tactic(auto)]
 
 mod receiving;

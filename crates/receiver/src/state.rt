@@ -1,11 +1,14 @@
-ghost use Rattle.std.specs.Prelude.{◌≤◌};
-ghost use Rattle.std.specs.Option.{ForSome};
+//! What a panel keeps of a transmission.
 
-// No whole transmission has more bytes from its start on.
+ghost use Rattle.std.specs.Prelude.{◌≡◌, ◌≢◌, ◌<◌, ◌≤◌, length, slice_index};
+ghost use Rattle.receiver.specs.Spans.{longest_span, counted_preambles, kept_length, Bytes, Bytes-prop};
+
+/// No whole transmission has more bytes from its start on.
 pub(crate) const MAX_SPAN: usize = 264;
 
-// What is kept of the characters of a transmission. A longer span is not whole, so that its first bytes are enough. They stand
-// in an array and not in an `ArrayVec`, which is not `Copy`, as this is.
+/// What is kept of the characters of a transmission: each value is what some characters leave (`pending`). A longer span than
+/// there is room for is not whole, so that its first bytes are enough. They stand in an array and not in an `ArrayVec`, which is
+/// not `Copy`, as this is.
 #[derive(Clone, Copy)]
 pub struct Receiver {
     // Up to two: more are not told apart.
@@ -15,6 +18,12 @@ pub struct Receiver {
     pub(crate) len: Option<usize>,
     // All marks from the start on together.
     pub(crate) marks: u8,
-    ghost within: { ForSome len (λ n. n ≤ 264) },
-    ghost counted: { preambles ≤ 2 },
+    ghost counted: { preambles ≤ counted_preambles },
+    ghost room: { length bytes ≡ longest_span },
+    ghost fit: { Bytes bytes } by { Bytes-prop bytes },
+    ghost within: { kept_length len ≤ longest_span },
+    // A span does not begin with a preamble.
+    ghost begun: { 0 < kept_length len → slice_index bytes 0 ≢ 255 },
+    // Marks begin with the span.
+    ghost unmarked: { kept_length len ≡ 0 → marks ≡ 0 },
 }
