@@ -4,7 +4,7 @@ use Rattle.std.specs.List.{AllByRecursion, find}
 use Rattle.std.proofs.lemmas.List.{length-take-le, length-drop, take_all}
 use Rattle.std.proofs.lemmas.Bool.{cases_Bool, le-ltb, ltb-false, not-false, not_from_true, or_from, or_parts}
 use Rattle.record.specs.Bytes.{zeros?}
-use Rattle.record.specs.Faults.{offends, faults, fault_of}
+use Rattle.record.specs.Faults.{offends?, faults, fault_of}
 use Rattle.record.specs.Lawful.{Lawful}
 use Rattle.record.specs.Layout.{decoded}
 use Rattle.record.proofs.Numbers.{Byte, below24, below32}
@@ -29,7 +29,7 @@ reserved_read bytes l = ap zeros? (take_all 7 (drop 73 bytes) (simp length-drop 
 pub faultless : (bytes : List ℕ) → Lawful (decoded bytes) → get_or bytes 9 0 ≤ 3 → zeros? (drop 73 bytes) ≡ true → fault_of bytes ≡ None
 faultless bytes h flags zeros =
     let f = h.fields in
-    none_first (offends bytes) faults (
+    none_first (offends? bytes) faults (
       le-ltb 15 (get_or bytes 4 0) f.polling_address,
       (
         or_from (ltb (get_or bytes 5 0) 2) (ltb 15 (get_or bytes 5 0)) (le-ltb (get_or bytes 5 0) 2 f.preambles.0) (le-ltb 15 (get_or bytes 5 0) f.preambles.1),
@@ -63,7 +63,7 @@ pub record Faultless (bytes : List ℕ) : Type 0 where
 
 pub from_faultless : (bytes : List ℕ) → length bytes ≡ 80 → AllByRecursion Byte bytes → fault_of bytes ≡ None → Faultless bytes
 from_faultless bytes l all e =
-    let t = first_none (offends bytes) faults e in
+    let t = first_none (offends? bytes) faults e in
     let preambles = or_parts (ltb (get_or bytes 5 0) 2) (ltb 15 (get_or bytes 5 0)) t.1.0 in
     let u = t.1.1 in
     let v = u.1.1.1 in

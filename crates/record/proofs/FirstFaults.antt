@@ -5,7 +5,7 @@ use Rattle.std.proofs.ByRecursion.{All-weaker}
 use Rattle.std.proofs.lemmas.Bool.{cases_Bool}
 use Rattle.record.specs.declared.faults.RecordFault.{RecordFault}
 use Rattle.record.specs.declared.faults.RecordFault.TheVariants.{PollingAddress, Preambles, Flags, Setpoint, Ceiling, FullScale, Flow, Temperature, Reserved}
-use Rattle.record.specs.Faults.{offset_of, offends, faults, fault_of, FirstFault}
+use Rattle.record.specs.Faults.{offset_of, offends?, faults, fault_of, FirstFault}
 
 -- ---- a list in the order of a key
 
@@ -58,6 +58,6 @@ each P h Reserved = h.1.1.1.1.1.1.1.1.0
 
 pub first_fault : (bytes : List ℕ) (f : RecordFault) → fault_of bytes ≡ Some f → FirstFault bytes f
 first_fault bytes f e = record {
-  here = first_passes offset_of (offends bytes) f faults e;
-  before = each (λ g. offset_of g < offset_of f → offends bytes g ≡ false) (none_before offset_of (offends bytes) f PollingAddress (Preambles ∷ Flags ∷ Setpoint ∷ Ceiling ∷ FullScale ∷ Flow ∷ Temperature ∷ Reserved ∷ []) (omega arith, (omega arith, (omega arith, (omega arith, (omega arith, (omega arith, (omega arith, (omega arith, tt)))))))) e);
+  here = first_passes offset_of (offends? bytes) f faults e;
+  before = each (λ g. offset_of g < offset_of f → offends? bytes g ≡ false) (none_before offset_of (offends? bytes) f PollingAddress (Preambles ∷ Flags ∷ Setpoint ∷ Ceiling ∷ FullScale ∷ Flow ∷ Temperature ∷ Reserved ∷ []) (omega arith, (omega arith, (omega arith, (omega arith, (omega arith, (omega arith, (omega arith, (omega arith, tt)))))))) e);
 }

@@ -6,7 +6,7 @@ use Rattle.std.specs.List.{AllByRecursion}
 use Rattle.std.proofs.lemmas.List.{take_at, drop_at, length-drop}
 use Rattle.std.proofs.lemmas.Bool.{and_parts, leb-true}
 use Rattle.setpoint.specs.Value.{value_of}
-use Rattle.setpoint.specs.Units.{is_full_scale}
+use Rattle.setpoint.specs.Units.{full_scale?}
 use Rattle.record.specs.declared.Fields.{Fields}
 use Rattle.record.specs.declared.Record.{Record}
 use Rattle.record.specs.Bytes.{bytes32, number32, zeros?}
@@ -34,7 +34,7 @@ same_record r f x y t ef ex ey et = rw (ef, ex, ey, et) refl
 value_back : (x : Float) → FiniteBinary32 x → value_of (number32 (bytes32 (pattern_of x)) 0) ≡ x
 value_back x h = ap value_of (back32 (pattern_of x) (pattern_limit x h.1)) ∙ value_pattern x h.1
 
-full_scale_limit : (n : ℕ) → is_full_scale n ≡ true → n < 2 ^ 32
+full_scale_limit : (n : ℕ) → full_scale? n ≡ true → n < 2 ^ 32
 full_scale_limit n h = omega (arith, leb-true n 1000000 (and_parts (leb 1 n) (leb n 1000000) h).1)
 
 pub reads_back : (r : Record) → Lawful r → ReadsBack r (encoded r)

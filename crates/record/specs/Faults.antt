@@ -1,12 +1,13 @@
 -- What can be wrong with the 80 bytes of a record.
 use Rattle.std.specs.Prelude.{◌≡◌, ℕ, ◌<◌, Bool, true, false, not, ◌||◌, List, [], ◌∷◌, ◌++◌, drop, codes, find, decimal, Option, nat_lt, slice_index}
 use Rattle.std.specs.Float.{float_is_finite}
-use Rattle.setpoint.specs.Lawful.{is_lawful}
-use Rattle.setpoint.specs.Units.{is_full_scale}
+use Rattle.setpoint.specs.Lawful.{lawful?}
+use Rattle.setpoint.specs.Units.{full_scale?}
 use Rattle.setpoint.specs.Value.{value_of}
 use Rattle.record.specs.declared.faults.RecordFault.{RecordFault}
 use Rattle.record.specs.declared.faults.RecordFault.TheVariants.{PollingAddress, Preambles, Flags, Setpoint, Ceiling, FullScale, Flow, Temperature, Reserved}
 use Rattle.record.specs.Bytes.{number32, zeros?}
+use Rattle.record.specs.Numbers.{most_polling_address, least_preambles, most_preambles, most_flags, most_ceiling, reserved_at}
 
 -- The offset of the field that a fault names.
 abbrev pub offset_of : RecordFault → ℕ
@@ -35,22 +36,22 @@ abbrev pub faults : List RecordFault
 faults = field_faults ++ later_faults
 
 -- Whether the field that a fault names is out of range.
-abbrev pub offends : List ℕ → RecordFault → Bool
-offends bytes PollingAddress = nat_lt 15 (slice_index bytes 4)
-offends bytes Preambles = nat_lt (slice_index bytes 5) 2 || nat_lt 15 (slice_index bytes 5)
-offends bytes Flags = nat_lt 3 (slice_index bytes 9)
-offends bytes Setpoint = not (is_lawful (number32 bytes 10))
-offends bytes Ceiling = nat_lt 100 (slice_index bytes 14)
-offends bytes FullScale = not (is_full_scale (number32 bytes 16))
-offends bytes Flow = not (float_is_finite (value_of (number32 bytes 20)))
-offends bytes Temperature = not (float_is_finite (value_of (number32 bytes 24)))
-offends bytes Reserved = not (zeros? (drop 73 bytes))
+abbrev pub offends? : List ℕ → RecordFault → Bool
+offends? bytes PollingAddress = nat_lt most_polling_address (slice_index bytes 4)
+offends? bytes Preambles = nat_lt (slice_index bytes 5) least_preambles || nat_lt most_preambles (slice_index bytes 5)
+offends? bytes Flags = nat_lt most_flags (slice_index bytes 9)
+offends? bytes Setpoint = not (lawful? (number32 bytes 10))
+offends? bytes Ceiling = nat_lt most_ceiling (slice_index bytes 14)
+offends? bytes FullScale = not (full_scale? (number32 bytes 16))
+offends? bytes Flow = not (float_is_finite (value_of (number32 bytes 20)))
+offends? bytes Temperature = not (float_is_finite (value_of (number32 bytes 24)))
+offends? bytes Reserved = not (zeros? (drop reserved_at bytes))
 
 -- The first field that is out of range; none where the bytes are a lawful record's.
 abbrev pub fault_of : List ℕ → Option RecordFault
-fault_of bytes = find (offends bytes) faults
+fault_of bytes = find (offends? bytes) faults
 
 -- The fault's field is out of range, and every field of a smaller offset is in range.
 pub record FirstFault (bytes : List ℕ) (fault : RecordFault) : Type 0 where
-  pub here : offends bytes fault ≡ true
-  pub before : (other : RecordFault) → offset_of other < offset_of fault → offends bytes other ≡ false
+  pub here : offends? bytes fault ≡ true
+  pub before : (other : RecordFault) → offset_of other < offset_of fault → offends? bytes other ≡ false

@@ -1,15 +1,16 @@
 -- The 80 bytes of a record.
-use Rattle.std.specs.Prelude.{ℕ, ◌+◌, cond, List, [], ◌∷◌, ◌++◌, take, drop, replicate, slice_index}
+use Rattle.std.specs.Prelude.{ℕ, ◌+◌, if◌then◌else◌, List, [], ◌∷◌, ◌++◌, take, drop, replicate, slice_index}
 use Rattle.setpoint.specs.Value.{value_of}
 use Rattle.record.specs.declared.Fields.{Fields}
 use Rattle.record.specs.declared.Record.{Record}
 use Rattle.record.specs.declared.readings.Reading.{Reading}
 use Rattle.record.specs.Bytes.{bytes24, bytes32, number24, number32, bit?}
+use Rattle.record.specs.Numbers.{text_length, text_at, reserved_length}
 use Rattle.record.specs.Readings.{pattern_of}
 
 -- Bit 0 tells that the configuration was changed, bit 1 that the key is open.
 abbrev pub flags_of : Fields → ℕ
-flags_of fields = cond fields.changed 1 0 + cond fields.key_open 2 0
+flags_of fields = (if fields.changed then 1 else 0) + (if fields.key_open then 2 else 0)
 
 -- Bytes 0 to 19. Of a 24-bit number the low 24 bits are written.
 abbrev pub field_bytes : Fields → List ℕ
@@ -29,7 +30,7 @@ reading_bytes reading = bytes32 (pattern_of reading.flow) ++ bytes32 (pattern_of
 
 -- The bytes of a record: its fields, its reading, its text, and seven reserved bytes 0.
 abbrev pub encoded : Record → List ℕ
-encoded r = field_bytes r.fields ++ reading_bytes r.reading ++ r.text ++ replicate 7 0
+encoded r = field_bytes r.fields ++ reading_bytes r.reading ++ r.text ++ replicate reserved_length 0
 
 abbrev pub fields_at : List ℕ → Fields
 fields_at bytes = record {
@@ -51,4 +52,4 @@ reading_at bytes = record { flow = value_of (number32 bytes 20); temperature = v
 
 -- The record in 80 bytes, by the places of its fields.
 abbrev pub decoded : List ℕ → Record
-decoded bytes = record { fields = fields_at bytes; reading = reading_at bytes; text = take 45 (drop 28 bytes) }
+decoded bytes = record { fields = fields_at bytes; reading = reading_at bytes; text = take text_length (drop text_at bytes) }

@@ -1,3 +1,5 @@
+pub mod Numbers
+pub mod TextParts
 pub mod Bytes
 pub mod Readings
 pub mod Layout

@@ -9,8 +9,8 @@ abbrev pub pattern_of : Float → ℕ
 pattern_of x = to_bits binary32 x
 
 -- Whether both values of a reading are finite.
-abbrev pub is_finite : Reading → Bool
-is_finite reading = float_is_finite reading.flow && float_is_finite reading.temperature
+abbrev pub finite? : Reading → Bool
+finite? reading = float_is_finite reading.flow && float_is_finite reading.temperature
 
 -- A finite value of binary32.
 abbrev pub FiniteBinary32 : Float → Type 0

@@ -1,8 +1,8 @@
-// Numbers in bytes, the most significant byte first.
+//! Numbers in bytes, the most significant byte first.
 ghost use Rattle.std.specs.Prelude.{◌≡◌, ◌+◌, ◌<◌, ◌≤◌, length};
 ghost use Rattle.record.specs.Bytes.{bytes24, number24, number32, bit?, zeros?};
 
-// The low 24 bits of a number.
+/// The low 24 bits of a number.
 pub fn u24_to_be_bytes(n: u32) -> [u8; 3]
     ensures { result ≡ bytes24 n }
 {

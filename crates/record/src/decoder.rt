@@ -1,3 +1,4 @@
+//! From the bytes of a record to the record.
 ghost use Rattle.std.specs.Prelude.{◌≡◌, length, is_ok, IfErr, if◌then◌else◌, OnOk};
 ghost use Rattle.std.specs.Result.{result_err};
 ghost use Rattle.record.specs.Faults.{fault_of, FirstFault};
@@ -9,7 +10,7 @@ use crate::faults::check;
 use crate::layout::*;
 use crate::{Fields, Reading, Record, RecordFault, value_of};
 
-// Fills `record` from its bytes, unless a field is out of range; `record` then stays as it was.
+/// Fills `record` from its bytes, unless a field is out of range; `record` then stays as it was.
 pub fn decode(bytes: &[u8; RECORD_LENGTH], record: &mut Record) -> Result<(), RecordFault>
     ensures fault { result_err result ≡ fault_of bytes.now }
     ensures first { IfErr result (λ fault. FirstFault bytes.now fault) }
@@ -21,7 +22,7 @@ pub fn decode(bytes: &[u8; RECORD_LENGTH], record: &mut Record) -> Result<(), Re
     Ok(())
 }
 
-// The record in 80 bytes by the places of its fields, in range or not.
+/// The record in 80 bytes by the places of its fields, in range or not.
 pub fn record_at(bytes: &[u8; RECORD_LENGTH]) -> Record
     ensures { result ≡ decoded bytes.now }
 {
@@ -37,7 +38,7 @@ pub fn record_at(bytes: &[u8; RECORD_LENGTH]) -> Record
     }
 }
 
-// The text bytes of a record in its 80 bytes, where they stand: whoever asks for one of them copies none.
+/// The text bytes of a record in its 80 bytes, where they stand: whoever asks for one of them copies none.
 pub fn text_of(bytes: &[u8; RECORD_LENGTH]) -> &[u8]
     ensures value { result.now ≡ (decoded bytes.now).text }
     ensures length { length result.now ≡ 45 }

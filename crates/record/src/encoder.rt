@@ -1,3 +1,4 @@
+//! From a record to its bytes.
 ghost use Rattle.std.specs.Prelude.{◌≡◌};
 ghost use Rattle.record.specs.Inverse.{ReadsBack};
 ghost use Rattle.record.specs.Lawful.{Lawful};
@@ -7,7 +8,7 @@ use crate::bytes::u24_to_be_bytes;
 use crate::layout::*;
 use crate::{Fields, Reading, Record, pattern_of};
 
-// The bytes of any record, lawful or not. Those of a lawful one decode to the same record.
+/// The bytes of any record, lawful or not. Those of a lawful one decode to the same record.
 pub fn encode(record: &Record) -> [u8; RECORD_LENGTH]
     ensures value { result ≡ encoded «record».now }
     ensures back { Lawful «record».now → ReadsBack «record».now result }

@@ -1,6 +1,7 @@
+//! What can be wrong with the bytes of a record.
 ghost use Rattle.std.specs.Prelude.{◌≡◌, Some};
 ghost use Rattle.std.specs.Result.{result_err};
-ghost use Rattle.record.specs.Faults.{offset_of, words_of, offends, fault_of};
+ghost use Rattle.record.specs.Faults.{offset_of, words_of, offends?, fault_of};
 
 use crate::bytes::{all_zero, u32_at};
 use crate::layout::*;
@@ -8,7 +9,7 @@ use crate::readings::value_of;
 use std::error::Error;
 use std::fmt;
 
-// The field of a record that is out of range, numbered by its offset.
+/// The field of a record that is out of range, numbered by its offset.
 #[derive(Clone, Copy, PartialEq, Eq, Debug)]
 pub enum RecordFault {
     PollingAddress = 4,
@@ -23,7 +24,7 @@ pub enum RecordFault {
 }
 
 impl RecordFault {
-    // Where the field stands in the bytes of a record.
+    /// Where the field stands in the bytes of a record.
     pub fn offset(self) -> u8
         ensures { result ≡ offset_of self }
     {
@@ -55,7 +56,7 @@ const FAULTS: [RecordFault; 9] = [
     RecordFault::Reserved,
 ];
 
-// Whether the bytes of a record are lawful; if not, by the first field that is out of range.
+/// Whether the bytes of a record are lawful; if not, by the first field that is out of range.
 pub fn check(bytes: &[u8; RECORD_LENGTH]) -> Result<(), RecordFault>
     ensures { result_err result ≡ fault_of bytes.now }
 {
@@ -73,7 +74,7 @@ fn fault_in(bytes: &[u8; RECORD_LENGTH]) -> Option<RecordFault>
 
 // Whether the field that a fault names is out of range.
 fn offends(bytes: &[u8; RECORD_LENGTH], fault: RecordFault) -> bool
-    ensures { result ≡ offends bytes.now fault }
+    ensures { result ≡ offends? bytes.now fault }
 {
     match fault {
         RecordFault::PollingAddress => bytes[POLLING_ADDRESS_AT] > MAX_POLLING_ADDRESS,

@@ -1,4 +1,6 @@
-// Where the fields of a record stand in its bytes, and their ranges.
+//! Where the fields of a record stand in its bytes, and their ranges.
+
+use std::ops::Range;
 
 pub const RECORD_LENGTH: usize = 80;
 
@@ -36,7 +38,19 @@ pub const TEXT_AT: usize = 28;
 
 pub const RESERVED_AT: usize = 73;
 
-// The bits of the flags byte; its other bits are 0.
+/// The parts of a record's text, each by its places there.
+pub const TAG: Range<usize> = 0..6;
+
+pub const DESCRIPTOR: Range<usize> = 6..18;
+
+pub const DATE: Range<usize> = 18..21;
+
+pub const MESSAGE: Range<usize> = 21..TEXT_LENGTH;
+
+/// Tag, descriptor and date, which stand side by side.
+pub const LABELS: Range<usize> = 0..21;
+
+/// The bits of the flags byte; its other bits are 0.
 pub const CHANGED_BIT: u8 = 0;
 
 pub const KEY_BIT: u8 = 1;
@@ -51,5 +65,5 @@ pub const MAX_PREAMBLES: u8 = 15;
 
 pub const MAX_CEILING: u8 = 100;
 
-// Identification and assembly numbers have 24 bits.
+/// Identification and assembly numbers have 24 bits.
 pub const MAX_U24: u32 = 0xFF_FFFF;

@@ -1,9 +1,9 @@
-// The record of a gas flow channel: 80 bytes, of each number the most significant byte first.
+//! The record of a gas flow channel: 80 bytes, of each number the most significant byte first.
 #![tactic(auto)]
 
 ghost use Rattle.std.specs.Prelude.{◌≡◌, Decides};
 ghost use Rattle.record.specs.Identities.{identity_of};
-ghost use Rattle.record.specs.Lawful.{in_range, is_lawful, LawfulFields, Lawful};
+ghost use Rattle.record.specs.Lawful.{in_range?, lawful?, LawfulFields, Lawful};
 
 mod bytes;
 mod decoder;
@@ -18,34 +18,35 @@ pub use encoder::encode;
 pub use faults::{RecordFault, check};
 use layout::MAX_CEILING;
 pub use layout::{
-    MAX_POLLING_ADDRESS, MAX_PREAMBLES, MAX_U24, MIN_PREAMBLES, RECORD_LENGTH, TEXT_LENGTH,
+    DATE, DESCRIPTOR, LABELS, MAX_POLLING_ADDRESS, MAX_PREAMBLES, MAX_U24, MESSAGE, MIN_PREAMBLES,
+    RECORD_LENGTH, TAG, TEXT_LENGTH,
 };
 pub use readings::{Reading, pattern_of, value_of};
 
-// What a record holds beside its reading and its text.
+/// What a record holds beside its reading and its text.
 #[derive(Clone, Copy)]
 pub struct Fields {
     pub device_type: u8,
     pub identification: u32,
     pub polling_address: u8,
-    // How many preambles a response has.
+    /// How many preambles a response has.
     pub preambles: u8,
     pub assembly_number: u32,
-    // Whether the configuration was changed since command 38.
+    /// Whether the configuration was changed since command 38.
     pub changed: bool,
-    // The key, a term of this project: while it is shut, commands that write are refused.
+    /// The key, a term of this project: while it is shut, commands that write are refused.
     pub key_open: bool,
-    // In percent, a binary32 pattern.
+    /// In percent, a binary32 pattern.
     pub setpoint: u32,
-    // The ceiling, a term of this project: the largest setpoint that a write may give, in whole percent.
+    /// The ceiling, a term of this project: the largest setpoint that a write may give, in whole percent.
     pub ceiling: u8,
-    // Only passed on.
+    /// Only passed on.
     pub flow_unit: u8,
-    // In mL/min.
+    /// In mL/min.
     pub full_scale: u32,
 }
 
-// What tells channels apart.
+/// What tells channels apart.
 #[derive(Clone, Copy, PartialEq, Eq, Debug)]
 pub struct Identity {
     pub device_type: u8,
@@ -63,25 +64,25 @@ impl Fields {
     }
 }
 
-// A channel's record, lawful or not.
+/// A channel's record, lawful or not.
 #[derive(Clone, Copy)]
 pub struct Record {
     pub fields: Fields,
     pub reading: Reading,
-    // Tag, descriptor, date and message.
+    /// Tag, descriptor, date and message.
     pub text: [u8; TEXT_LENGTH],
 }
 
-// Whether every field of a record is in range and its reading is finite.
+/// Whether every field of a record is in range and its reading is finite.
 pub fn lawful(record: &Record) -> bool
-    ensures value { result ≡ is_lawful «record».now }
+    ensures value { result ≡ lawful? «record».now }
     ensures means { Decides result (Lawful «record».now) }
 {
     in_range(record.fields) && record.reading.is_finite()
 }
 
 fn in_range(fields: Fields) -> bool
-    ensures value { result ≡ in_range fields }
+    ensures value { result ≡ in_range? fields }
     ensures means { Decides result (LawfulFields fields) }
 {
     fields.identification <= MAX_U24

@@ -1,0 +1,37 @@
+-- The numbers of a record: the ranges of its fields and its lengths.
+use Rattle.std.specs.Prelude.{ℕ, ◌^◌}
+
+abbrev pub most_polling_address : ℕ
+most_polling_address = 15
+
+abbrev pub least_preambles : ℕ
+least_preambles = 2
+
+abbrev pub most_preambles : ℕ
+most_preambles = 15
+
+-- Two flags, in the two lowest bits.
+abbrev pub most_flags : ℕ
+most_flags = 3
+
+-- In whole percent.
+abbrev pub most_ceiling : ℕ
+most_ceiling = 100
+
+-- Identification and assembly numbers are below it.
+abbrev pub end_of_24_bits : ℕ
+end_of_24_bits = 2 ^ 24
+
+-- How many bytes of text a record has.
+abbrev pub text_length : ℕ
+text_length = 45
+
+-- From where on a record's text stands in its bytes, and from where on the reserved bytes.
+abbrev pub text_at : ℕ
+text_at = 28
+
+abbrev pub reserved_at : ℕ
+reserved_at = 73
+
+abbrev pub reserved_length : ℕ
+reserved_length = 7
