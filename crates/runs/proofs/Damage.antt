@@ -8,14 +8,14 @@ use Rattle.runs.specs.Laws.{ErrorAtMost}
 use Rattle.runs.proofs.Places.{set_same}
 
 module _ (D : Device) (capacity : ℕ) where
-  pub character_keeps : {rs : Rack D} {t : Pending D} {c : D.Character} {x : Result D} {rs' : Rack D} {t' : Pending D} → Step D capacity rs t (character c ▸ x) rs' t' → rs' ≡ rs
+  pub character_keeps : {records : Rack D} {pending : Pending D} {c : D.Character} {result : Result D} {records' : Rack D} {pending' : Pending D} → Step D capacity records pending (character c ▸ result) records' pending' → records' ≡ records
   character_keeps (takes e) = refl
   character_keeps (refuses e) = refl
 
-  pub damaged_keeps : {rs : Rack D} {t : Pending D} {n : ℕ} {x : Result D} {rs' : Rack D} {t' : Pending D} → DeviceLaws D → Step D capacity rs t (gap n ▸ x) rs' t' → 64 ≤ n → D.Damaged t
-      → (rs' ≡ rs) × ErrorAtMost D x
+  pub damaged_keeps : {records : Rack D} {pending : Pending D} {n : ℕ} {result : Result D} {records' : Rack D} {pending' : Pending D} → DeviceLaws D → Step D capacity records pending (gap n ▸ result) records' pending' → 64 ≤ n → D.Damaged pending
+      → (records' ≡ records) × ErrorAtMost D result
   damaged_keeps law (short e) long d = absurd (omega arith)
   damaged_keeps law (nobody room none) long d = (refl, inl refl)
-  damaged_keeps {rs} {t} law (serves {k = k} {r = r} room a only within) long d =
-      (ap (set rs k) (law.damaged_served r t d) ∙ set_same a, inr (k, D.reply r t, refl, law.damaged_reply r t d (only.holds r a)))
-  damaged_keeps {t = t} law (denies {r = r} room a only asks above) long d = absurd (both_ways (D.asks? r t) (law.damaged_asks r t d) asks)
+  damaged_keeps {records} {pending} law (serves {place = place} {r = r} room a only within) long d =
+      (ap (set records place) (law.damaged_served r pending d) ∙ set_same a, inr (place, D.reply r pending, refl, law.damaged_reply r pending d (only.holds r a)))
+  damaged_keeps {pending = pending} law (denies {r = r} room a only asks above) long d = absurd (both_ways (D.asks? r pending) (law.damaged_asks r pending d) asks)

@@ -4,11 +4,11 @@ use Rattle.header.specs.Shares.{capacity_of, total_share, fields_share}
 use Rattle.record.specs.declared.Record.{Record}
 use Rattle.runs.specs.Channel.{flow_channel}
 use Rattle.runs.specs.Places.{At, here, there}
-use Rattle.runs.specs.SetUps.{SetUp, RunsPromised, CallsFollow, CallsDetermined}
+use Rattle.runs.specs.SetUps.{SetUp, RunsPromised, RunsAlike, CallsFollow, CallsDetermined}
 use Rattle.runs.specs.Shares.{total}
 use Rattle.runs.proofs.Channel.{flow_channel_laws}
 use Rattle.runs.proofs.Outcomes.{follows, determined}
-use Rattle.runs.proofs.Promises.{promise}
+use Rattle.runs.proofs.Promises.{promise, alike}
 use Rattle.runs.proofs.Places.{at_sole}
 
 -- the sum of the shares as the header weighs it
@@ -34,6 +34,11 @@ promised supply records after trace pending s w = record {
   alone = alone supply records s;
   kept = promise flow_channel (capacity_of supply) flow_channel_laws records after trace pending w (let e = total_shares records in let f = s.fits in omega arith);
 }
+
+-- the lone panel of the promise, as another run
+pub runs_alike : RunsAlike
+runs_alike supply records after trace pending s w =
+    alike flow_channel (capacity_of supply) flow_channel_laws records after trace pending w (let e = total_shares records in let f = s.fits in omega arith)
 
 pub calls_follow : CallsFollow
 calls_follow supply = follows flow_channel (capacity_of supply)

@@ -9,15 +9,15 @@ module _ (D : Device) where
   -- all characters of a transmission may be taken
   abbrev pub Acceptable : Pending D → Type 0
   Acceptable [] = Unit {0}
-  Acceptable (c ∷ t) = (D.acceptable? c ≡ true) × Acceptable t
+  Acceptable (c ∷ pending) = (D.acceptable? c ≡ true) × Acceptable pending
 
-  acceptable_more : (t : Pending D) (c : D.Character) → Acceptable t → D.acceptable? c ≡ true → Acceptable (t ++ (c ∷ []))
+  acceptable_more : (pending : Pending D) (c : D.Character) → Acceptable pending → D.acceptable? c ≡ true → Acceptable (pending ++ (c ∷ []))
   acceptable_more [] c f e = (e, tt)
-  acceptable_more (d ∷ t) c f e = (f.0, acceptable_more t c f.1 e)
+  acceptable_more (d ∷ pending) c f e = (f.0, acceptable_more pending c f.1 e)
 
 module _ (D : Device) (capacity : ℕ) where
-  pub acceptable_step : {rs : Rack D} {t : Pending D} {e : Interaction D} {rs' : Rack D} {t' : Pending D} → Step D capacity rs t e rs' t' → Acceptable D t → Acceptable D t'
-  acceptable_step {t = t} (takes {c = c} e) f = acceptable_more D t c f e
+  pub acceptable_step : {records : Rack D} {pending : Pending D} {e : Interaction D} {records' : Rack D} {pending' : Pending D} → Step D capacity records pending e records' pending' → Acceptable D pending → Acceptable D pending'
+  acceptable_step {pending = pending} (takes {c = c} e) f = acceptable_more D pending c f e
   acceptable_step (refuses e) f = f
   acceptable_step (short e) f = f
   acceptable_step (nobody room none) f = tt
@@ -26,7 +26,7 @@ module _ (D : Device) (capacity : ℕ) where
   acceptable_step (operates a) f = f
   acceptable_step (misses none) f = f
 
-  pub pending_step : {rs : Rack D} {t : Pending D} {e : Interaction D} {rs' : Rack D} {t' : Pending D} → Step D capacity rs t e rs' t' → t' ≡ pending_next D t e.call e.result
+  pub pending_step : {records : Rack D} {pending : Pending D} {e : Interaction D} {records' : Rack D} {pending' : Pending D} → Step D capacity records pending e records' pending' → pending' ≡ pending_next D pending e.call e.result
   pending_step (takes e) = refl
   pending_step (refuses e) = refl
   pending_step (short e) = refl
@@ -36,12 +36,12 @@ module _ (D : Device) (capacity : ℕ) where
   pending_step (operates a) = refl
   pending_step (misses none) = refl
 
-  pub count_step : {rs : Rack D} {t : Pending D} {e : Interaction D} {rs' : Rack D} {t' : Pending D} → Step D capacity rs t e rs' t' → length rs' ≡ length rs
+  pub count_step : {records : Rack D} {pending : Pending D} {e : Interaction D} {records' : Rack D} {pending' : Pending D} → Step D capacity records pending e records' pending' → length records' ≡ length records
   count_step (takes e) = refl
   count_step (refuses e) = refl
   count_step (short e) = refl
   count_step (nobody room none) = refl
-  count_step {rs} {t} (serves {k = k} {r = r} room a only within) = length-set rs k (D.served r t)
+  count_step {records} {pending} (serves {place = place} {r = r} room a only within) = length-set records place (D.served r pending)
   count_step (denies room a only asks above) = refl
-  count_step {rs} (operates {k = k} {u = u} {r = r} a) = length-set rs k (D.operated r u)
+  count_step {records} (operates {place = place} {operation = operation} {r = r} a) = length-set records place (D.operated r operation)
   count_step (misses none) = refl

@@ -39,25 +39,36 @@ pub record Device : Type 1 where
   pub Damaged : List Character → Type 0
   pub CommunicationError : Answer → Type 0
 
--- what a device owes to the laws
+-- what a device owes to the laws, of each of its records and each transmission
 pub record DeviceLaws (D : Device) : Type 0 where
-  pub served_nameplate : (r : D.Record) (t : List D.Character) → D.nameplate (D.served r t) ≡ D.nameplate r
-  pub operated_nameplate : (r : D.Record) (u : D.Operation) → D.nameplate (D.operated r u) ≡ D.nameplate r
-  pub served_grant : (r : D.Record) (t : List D.Character) → D.grant (D.served r t) ≡ D.after_answer (D.grant r) t (D.reply r t)
-  pub denied_grant : (r : D.Record) (t : List D.Character) → D.asks? r t ≡ true → D.after_answer (D.grant r) t (D.denial r t) ≡ D.grant r
-  pub operated_grant : (r : D.Record) (u : D.Operation) → D.grant (D.operated r u) ≡ D.after_operation (D.grant r) u (D.refusal r u)
+  pub served_nameplate : (r : D.Record) (pending : List D.Character) → D.nameplate (D.served r pending) ≡ D.nameplate r
+  pub operated_nameplate : (r : D.Record) (operation : D.Operation) → D.nameplate (D.operated r operation) ≡ D.nameplate r
+  pub served_grant : (r : D.Record) (pending : List D.Character)
+      → D.grant (D.served r pending) ≡ D.after_answer (D.grant r) pending (D.reply r pending)
+  pub denied_grant : (r : D.Record) (pending : List D.Character) → D.asks? r pending ≡ true
+      → D.after_answer (D.grant r) pending (D.denial r pending) ≡ D.grant r
+  pub operated_grant : (r : D.Record) (operation : D.Operation)
+      → D.grant (D.operated r operation) ≡ D.after_operation (D.grant r) operation (D.refusal r operation)
   -- only a setpoint command that asks moves the share, and moves it to what it asks
-  pub served_share : (r : D.Record) (t : List D.Character) → D.asks? r t ≡ false → D.share (D.nameplate r) (D.grant (D.served r t)) ≡ D.share (D.nameplate r) (D.grant r)
-  pub asked_share : (r : D.Record) (t : List D.Character) → D.asks? r t ≡ true → D.share (D.nameplate r) (D.grant (D.served r t)) ≡ D.asked (D.nameplate r) t
-  pub operated_share : (r : D.Record) (u : D.Operation) → D.share (D.nameplate r) (D.grant (D.operated r u)) ≡ D.share (D.nameplate r) (D.grant r)
+  pub served_share : (r : D.Record) (pending : List D.Character) → D.asks? r pending ≡ false
+      → D.share (D.nameplate r) (D.grant (D.served r pending)) ≡ D.share (D.nameplate r) (D.grant r)
+  pub asked_share : (r : D.Record) (pending : List D.Character) → D.asks? r pending ≡ true
+      → D.share (D.nameplate r) (D.grant (D.served r pending)) ≡ D.asked (D.nameplate r) pending
+  pub operated_share : (r : D.Record) (operation : D.Operation)
+      → D.share (D.nameplate r) (D.grant (D.operated r operation)) ≡ D.share (D.nameplate r) (D.grant r)
   -- the header's refusal is told from every other answer
-  pub reply_differs : (r : D.Record) (t : List D.Character) → D.meant? r t ≡ true → D.denial? (D.reply r t) ≡ false
-  pub denial_is : (r : D.Record) (t : List D.Character) → D.meant? r t ≡ true → D.asks? r t ≡ true → D.denial? (D.denial r t) ≡ true
+  pub reply_differs : (r : D.Record) (pending : List D.Character) → D.meant? r pending ≡ true
+      → D.denial? (D.reply r pending) ≡ false
+  pub denial_is : (r : D.Record) (pending : List D.Character) → D.meant? r pending ≡ true → D.asks? r pending ≡ true
+      → D.denial? (D.denial r pending) ≡ true
   -- a setpoint command is judged by nameplate and history
-  pub asks_setpoint : (r : D.Record) (t : List D.Character) → D.asks? r t ≡ true → D.setpoint? t ≡ true
-  pub asks_by : (r : D.Record) (t : List D.Character) → D.asks? r t ≡ D.asks_by? (D.nameplate r) (D.grant r) t
-  pub meant_by : (r : D.Record) (t : List D.Character) → D.setpoint? t ≡ true → D.meant? r t ≡ D.meant_by? (D.nameplate r) (D.grant r) t
+  pub asks_setpoint : (r : D.Record) (pending : List D.Character) → D.asks? r pending ≡ true → D.setpoint? pending ≡ true
+  pub asks_by : (r : D.Record) (pending : List D.Character)
+      → D.asks? r pending ≡ D.asks_by? (D.nameplate r) (D.grant r) pending
+  pub meant_by : (r : D.Record) (pending : List D.Character) → D.setpoint? pending ≡ true
+      → D.meant? r pending ≡ D.meant_by? (D.nameplate r) (D.grant r) pending
   -- a damaged transmission changes nothing and asks for nothing
-  pub damaged_served : (r : D.Record) (t : List D.Character) → D.Damaged t → D.served r t ≡ r
-  pub damaged_asks : (r : D.Record) (t : List D.Character) → D.Damaged t → D.asks? r t ≡ false
-  pub damaged_reply : (r : D.Record) (t : List D.Character) → D.Damaged t → D.meant? r t ≡ true → D.CommunicationError (D.reply r t)
+  pub damaged_served : (r : D.Record) (pending : List D.Character) → D.Damaged pending → D.served r pending ≡ r
+  pub damaged_asks : (r : D.Record) (pending : List D.Character) → D.Damaged pending → D.asks? r pending ≡ false
+  pub damaged_reply : (r : D.Record) (pending : List D.Character) → D.Damaged pending → D.meant? r pending ≡ true
+      → D.CommunicationError (D.reply r pending)

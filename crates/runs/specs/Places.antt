@@ -4,16 +4,16 @@ use Rattle.std.specs.Prelude.{◌≡◌, ℕ, zero, suc, Bool, true, cond, not, 
 -- the list has x at place k
 pub data At {X : Type 0} : List X → ℕ → X → Type 0 where
   here : {x : X} {xs : List X} → At (x ∷ xs) zero x
-  there : {x y : X} {xs : List X} {k : ℕ} → At xs k x → At (y ∷ xs) (suc k) x
+  there : {x y : X} {xs : List X} {place : ℕ} → At xs place x → At (y ∷ xs) (suc place) x
 
 -- the test holds at place k, and at no other
-pub record OnlyAt {X : Type 0} (test : X → Bool) (xs : List X) (k : ℕ) : Type 0 where
-  pub holds : (x : X) → At xs k x → test x ≡ true
-  pub alone : (j : ℕ) (x : X) → At xs j x → test x ≡ true → j ≡ k
+pub record OnlyAt {X : Type 0} (test : X → Bool) (xs : List X) (place : ℕ) : Type 0 where
+  pub holds : (x : X) → At xs place x → test x ≡ true
+  pub alone : (j : ℕ) (x : X) → At xs j x → test x ≡ true → j ≡ place
 
 -- a place in a list, once the list has one more element in front
 abbrev pub next_place : Option ℕ → Option ℕ
-next_place (Some k) = Some (suc k)
+next_place (Some place) = Some (suc place)
 next_place None = None
 
 module _ {X : Type 0} where

@@ -11,17 +11,17 @@ module _ {X : Type 0} where
 
   -- the same over all of the list but place k
   abbrev pub sum_but : (X → ℕ) → List X → ℕ → ℕ
-  sum_but amount [] k = 0
+  sum_but amount [] place = 0
   sum_but amount (x ∷ xs) zero = sum_of amount xs
-  sum_but amount (x ∷ xs) (suc k) = amount x + sum_but amount xs k
+  sum_but amount (x ∷ xs) (suc place) = amount x + sum_but amount xs place
 
 module _ (D : Device) where
   abbrev pub share_of : D.Record → ℕ
   share_of r = D.share (D.nameplate r) (D.grant r)
 
   abbrev pub total : Rack D → ℕ
-  total rs = sum_of share_of rs
+  total records = sum_of share_of records
 
   -- the shares of all channels but the one at place k
   abbrev pub others : Rack D → ℕ → ℕ
-  others rs k = sum_but share_of rs k
+  others records place = sum_but share_of records place

@@ -6,7 +6,7 @@ module _ (D : Device) where
   abbrev pub Rack : Type 0
   Rack = List D.Record
 
-  -- the characters taken since the last taken gap, or since set-up
+  -- the pending characters: those taken since the last taken gap, or since set-up
   abbrev pub Pending : Type 0
   Pending = List D.Character
 
@@ -23,6 +23,7 @@ module _ (D : Device) where
     silent : Result
     answered : ℕ → D.Answer → Result
 
+  -- a call with its result
   pub record Interaction : Type 0 where
     pub call : Call
     pub result : Result
@@ -30,11 +31,14 @@ module _ (D : Device) where
   abbrev pub Trace : Type 0
   Trace = List Interaction
 
+-- the room that a taken gap wants: a buffer of so many bytes
+abbrev pub gap_room : ℕ
+gap_room = 64
+
 module _ {D : Device} where
   infix 70 ◌▸◌
-  -- a call with its result
   abbrev pub ◌▸◌ : Call D → Result D → Interaction D
-  c ▸ x = record { call = c; result = x }
+  c ▸ result = record { call = c; result = result }
 
   -- the result of a local operation that is refused by a number, or by none
   abbrev pub local_result : Option ℕ → Result D
