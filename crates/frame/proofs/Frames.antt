@@ -4,7 +4,7 @@ use Rattle.std.proofs.lemmas.Bool.{and_parts, and_from, eqb-true, eq-eqb, leb-tr
 use Rattle.std.proofs.lemmas.List.{take_more, take_all, take_at, drop_at, get_or_at, get_or-drop, drop-drop, get_or-append-add, take-append-drop, length-take-le}
 use Rattle.std.proofs.ByRecursion.{All-get_or}
 use Rattle.std.specs.List.{AllByRecursion}
-use Rattle.frame.specs.Frames.{Parts, Framed, StartFrame, RequestFrame, frame_after, frame_at, start_frame, request_frame}
+use Rattle.frame.specs.Frames.{Parts, Framed, StartFrame, RequestFrame, frame_after, frame_at, start_frame, request_frame, short_request, long_request, longest_frame}
 
 -- what follows the address, spelled out
 abbrev pub tail : Parts → List ℕ
@@ -96,10 +96,10 @@ module _ (short long : ℕ) (differ : eqb long short ≡ false) (span : List ℕ
   ]
 
 pub request_read : (span : List ℕ) (f : Parts) → RequestFrame span f → request_frame span ≡ Ok f
-request_read span f = start_read 2 130 refl span f
+request_read span f = start_read short_request long_request refl span f
 
 pub read_request_lem : (span : List ℕ) (f : Parts) → request_frame span ≡ Ok f → RequestFrame span f
-read_request_lem span f = read_start 2 130 refl span f
+read_request_lem span f = read_start short_request long_request refl span f
 
 module _ (start w : ℕ) (span : List ℕ) (f : Parts) (h : Framed start w span f) where
   -- a frame has w + 4 bytes beside its data
@@ -120,6 +120,6 @@ module _ (start w : ℕ) (span : List ℕ) (f : Parts) (h : Framed start w span 
   data_limit bytes = omega (arith, length_framed, All-get_or (λ b. b < 256) span (length f.address + 2) 0 (omega (arith, length_framed, h.wide)) bytes, framed_count)
 
 -- a list of bytes that is a request's frame has at most 264
-pub request_limit : (span : List ℕ) (f : Parts) → AllByRecursion (λ b. b < 256) span → RequestFrame span f → length span ≤ 264
+pub request_limit : (span : List ℕ) (f : Parts) → AllByRecursion (λ b. b < 256) span → RequestFrame span f → length span ≤ longest_frame
 request_limit span f b (inl h) = omega (arith, length_framed 2 1 span f h, data_limit 2 1 span f h b)
 request_limit span f b (inr h) = omega (arith, length_framed 130 5 span f h, data_limit 130 5 span f h b)

@@ -7,8 +7,8 @@ use Rattle.std.proofs.lemmas.List.Sums.{fold_push}
 use Rattle.std.proofs.lemmas.Bool.Decides.{nat_tests}
 use Rattle.std.proofs.ByRecursion.{All-drop}
 use Rattle.frame.specs.Check.{check_of}
-use Rattle.frame.specs.Frames.{Parts, Framed, StartFrame, request_frame}
-use Rattle.frame.specs.Transmissions.{preambles_of, span_of, Request, Sent, Transmits, request_of, read_span, read_request}
+use Rattle.frame.specs.Frames.{Parts, Framed, StartFrame, request_frame, short_request, long_request}
+use Rattle.frame.specs.Transmissions.{preambles_of, span_of, parts_with, Request, Sent, Transmits, request_of, read_span, read_request}
 use Rattle.frame.specs.Making.{request?, start_for, checked, frame_bytes, sent, transmission, MadeAgain}
 use Rattle.std.specs.List.{AllByRecursion}
 use Rattle.frame.proofs.Frames.{request_read, read_request_lem, data_limit}
@@ -29,9 +29,6 @@ led (b ∷ bytes) = elim (cases_Bool (eqb b 255)) [
   | inr f ↦ rw f refl
 ]
 
-abbrev pub parts_with : Request → ℕ → Parts
-parts_with q check = record { address = q.address; command = q.command; «data» = q.«data»; check = check }
-
 -- a frame begins with no preamble, where neither start byte of its kind is one
 module _ (short long : ℕ) (a : eqb short 255 ≡ false) (b : eqb long 255 ≡ false) where
   unled : (span : List ℕ) (f : Parts) → StartFrame short long span f → preambles_of span ≡ 0
@@ -48,18 +45,11 @@ module _ (short long : ℕ) (a : eqb short 255 ≡ false) (b : eqb long 255 ≡ 
   pub span_sent : (q : Request) (bytes : List ℕ) (h : Sent (StartFrame short long) q bytes) → span_of bytes ≡ h.span
   span_sent q bytes h = rw (preambles_sent q bytes h) (rw h.spelled (span_led q.preambles h.span))
 
--- a request's transmission, as one of its kind of frame, and the other way round
-abbrev pub sent_request : (q : Request) (bytes : List ℕ) → Transmits q bytes → Sent (StartFrame 2 130) q bytes
-sent_request q bytes h = record { span = h.span; check = h.check; led = h.led; spelled = h.spelled; framed = h.framed; sound = h.sound }
-
-pub request_sent : (q : Request) (bytes : List ℕ) → Sent (StartFrame 2 130) q bytes → Transmits q bytes
-request_sent q bytes h = record { span = h.span; check = h.check; led = h.led; spelled = h.spelled; framed = h.framed; sound = h.sound }
-
 -- what the relation says, the reader finds
 pub complete : (q : Request) (bytes : List ℕ) → Transmits q bytes → read_request bytes ≡ Ok q
 complete q bytes h =
-    let n = preambles_sent 2 130 refl refl q bytes (sent_request q bytes h) in
-    let s = span_sent 2 130 refl refl q bytes (sent_request q bytes h) in
+    let n = preambles_sent short_request long_request refl refl q bytes h in
+    let s = span_sent short_request long_request refl refl q bytes h in
     let t = and_from (leb 2 q.preambles) (eqb (check_of h.span) 0) (le-leb 2 q.preambles h.led) (eq-eqb (check_of h.span) 0 h.sound) in
     ap (λ m. read_span m (span_of bytes)) n ∙ (ap (read_span q.preambles) s ∙ (cond-true _ _ _ t ∙ ap (request_of q.preambles) (request_read h.span (parts_with q h.check) h.framed)))
 
@@ -122,7 +112,7 @@ sends short long q h =
 
 -- at either width: the start byte that the maker takes is the one that stands there
 module _ (q : Request) (bytes : List ℕ) (b : AllByRecursion (λ b. b < 256) bytes) (h : Transmits q bytes) (few : q.preambles ≤ 20)
-    (start w : ℕ) (starts : start_for 2 130 w ≡ start) (known : (w ≡ 1) ⊎ (w ≡ 5)) (f : Framed start w h.span (parts_with q h.check)) where
+    (start w : ℕ) (starts : start_for short_request long_request w ≡ start) (known : (w ≡ 1) ⊎ (w ≡ 5)) (f : Framed start w h.span (parts_with q h.check)) where
   again_at : MadeAgain bytes q
   again_at =
       let bare = start ∷ q.address ++ q.command ∷ length q.«data» ∷ q.«data» in
@@ -145,6 +135,6 @@ made_again q bytes b h few = elim h.framed [
 pub length_sent : (short long : ℕ) (q : Request) → length (sent short long q) ≡ q.preambles + length q.address + length q.«data» + 4
 length_sent short long q = simp (length-append, length-replicate) (omega arith)
 
--- both of a request
+-- the transmission of a request in form is one
 pub transmits : (q : Request) → request? q ≡ true → Transmits q (transmission q)
-transmits q h = request_sent q (transmission q) (sends 2 130 q h)
+transmits = sends short_request long_request

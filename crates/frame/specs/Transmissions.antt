@@ -1,12 +1,25 @@
 -- A transmission: preambles and then a frame.
-use Rattle.std.specs.Prelude.{◌≡◌, ℕ, ◌≤◌, cond, ◌&&◌, List, ◌++◌, drop, replicate, Ok, Err, Result, ◌==◌, nat_le}
+use Rattle.std.specs.Prelude.{◌≡◌, ℕ, ◌≤◌, if◌then◌else◌, ◌&&◌, List, ◌++◌, drop, replicate, Ok, Err, Result, ◌==◌, nat_le}
 use Rattle.std.specs.List.{prefix_len}
+use Rattle.refusals.specs.Refusals.{number_of}
+use Rattle.refusals.specs.declared.Refusal.TheVariants.{OutOfForm}
 use Rattle.frame.specs.Check.{check_of}
 use Rattle.frame.specs.Frames.{Parts, RequestFrame, ReplyFrame, request_frame}
 
--- how many preambles, bytes FF, stand before the start: the start is the first byte that is not FF
+-- every preamble is this byte, and no start byte is
+abbrev pub preamble : ℕ
+preamble = 0xff
+
+-- the preambles without which no transmission is heard, and the most that are sent
+abbrev pub fewest_preambles : ℕ
+fewest_preambles = 2
+
+abbrev pub most_preambles : ℕ
+most_preambles = 20
+
+-- how many preambles stand before the start: the start is the first byte that is none
 abbrev pub preambles_of : List ℕ → ℕ
-preambles_of = prefix_len (λ b. b == 0xff)
+preambles_of = prefix_len (λ b. b == preamble)
 
 -- the bytes from the start on
 abbrev pub span_of : List ℕ → List ℕ
@@ -19,25 +32,23 @@ pub record Request : Type 0 where
   pub command : ℕ
   pub «data» : List ℕ
 
+-- what the frame of a transmission with these parts carries
+abbrev pub parts_with : Request → ℕ → Parts
+parts_with q check = record { address = q.address; command = q.command; «data» = q.«data»; check = check }
+
 -- The bytes are a sound transmission of these parts: as many preambles, at least two, and then a frame of this kind whose
 -- exclusive or from start to check is 0.
 pub record Sent (Kind : List ℕ → Parts → Type 0) (q : Request) (bytes : List ℕ) : Type 0 where
   pub span : List ℕ
   pub check : ℕ
-  pub led : 2 ≤ q.preambles
-  pub spelled : bytes ≡ replicate q.preambles 0xff ++ span
-  pub framed : Kind span (record { address = q.address; command = q.command; «data» = q.«data»; check = check })
+  pub led : fewest_preambles ≤ q.preambles
+  pub spelled : bytes ≡ replicate q.preambles preamble ++ span
+  pub framed : Kind span (parts_with q check)
   pub sound : check_of span ≡ 0
 
--- THE TRANSMISSION RELATION: the bytes are a sound transmission of this request, that is at least two preambles and then a
--- request's frame whose exclusive or from start to check is 0.
-pub record Transmits (q : Request) (bytes : List ℕ) : Type 0 where
-  pub span : List ℕ
-  pub check : ℕ
-  pub led : 2 ≤ q.preambles
-  pub spelled : bytes ≡ replicate q.preambles 0xff ++ span
-  pub framed : RequestFrame span (record { address = q.address; command = q.command; «data» = q.«data»; check = check })
-  pub sound : check_of span ≡ 0
+-- THE TRANSMISSION RELATION: the bytes are a sound transmission of a request with these parts.
+abbrev pub Transmits : Request → List ℕ → Type 0
+Transmits = Sent RequestFrame
 
 -- THE REPLY RELATION: the bytes are a sound transmission of a reply with these parts.
 abbrev pub Replies : Request → List ℕ → Type 0
@@ -49,7 +60,10 @@ request_of n (Ok f) = Ok (record { preambles = n; address = f.address; command =
 request_of n (Err e) = Err e
 
 abbrev pub read_span : ℕ → List ℕ → Result Request ℕ
-read_span n span = cond (nat_le 2 n && check_of span == 0) (request_of n (request_frame span)) (Err 110)
+read_span n span =
+    if nat_le fewest_preambles n && check_of span == 0
+    then request_of n (request_frame span)
+    else Err (number_of OutOfForm)
 
 -- a request read from bytes, 110 where they are no sound transmission
 abbrev pub read_request : List ℕ → Result Request ℕ

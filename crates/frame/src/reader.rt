@@ -1,20 +1,20 @@
-ghost use Rattle.std.specs.Prelude.{◌≡◌, ◌≤◌, length, IfOk, MatchResult, OnOk};
-ghost use Rattle.frame.specs.Frames.{Parts, RequestFrame, request_frame, frame_after};
-ghost use Rattle.frame.specs.Making.{MadeAgain};
-ghost use Rattle.frame.specs.Transmissions.{Request, Transmits, preambles_of, read_request};
-ghost use Rattle.frame.specs.Views.{address_bytes, Fitting, frame_parts, request_parts, viewed};
+//! Reads frames and transmissions.
+
+ghost use Rattle.std.specs.Prelude.{◌≡◌, ◌≤◌, length, OnOk};
+ghost use Rattle.frame.specs.Frames.{request_frame, frame_after, longest_frame};
+ghost use Rattle.frame.specs.Transmissions.{preambles_of, read_request};
+ghost use Rattle.frame.specs.Views.{address_bytes, frame_parts, request_parts, viewed, FrameMeans, RequestMeans, SentAgain};
 
 use crate::{
     Address, Frame, LONG_REQUEST, MIN_PREAMBLES, PREAMBLE, SHORT_REQUEST, Transmission, check,
 };
 use refusals::Refusal;
 
-// Reads a request from the bytes of its transmission, of which address and data are parts: 110 unless they are sound.
+/// Reads a request from the bytes of its transmission, of which the data are a part: 110 unless they are sound.
 pub fn read_request(bytes: &[u8]) -> Result<Transmission<'_>, Refusal>
     ensures value { viewed request_parts result ≡ read_request bytes.now }
-    ensures kind { IfOk result (λ t. Fitting t.address) }
-    ensures means { MatchResult result (λ t. Transmits (request_parts t) bytes.now) (λ _. (q : Request) → Transmits q bytes.now → ⊥) }
-    ensures again { IfOk result (λ t. t.preambles ≤ 20 → MadeAgain bytes.now (request_parts t)) }
+    ensures means { RequestMeans result bytes.now }
+    ensures again { SentAgain result bytes.now }
 {
     let preambles = count_preambles(bytes);
     let span = &bytes[preambles..];
@@ -30,24 +30,25 @@ pub fn read_request(bytes: &[u8]) -> Result<Transmission<'_>, Refusal>
     })
 }
 
-// Reads a request's frame from the bytes that begin with its start byte: 110 unless it is whole. Its check is not judged here.
+/// Reads a request's frame from the bytes that begin with its start byte: 110 unless it is whole. Its check is not judged
+/// here.
 pub fn read_frame(span: &[u8]) -> Result<Frame<'_>, Refusal>
     ensures value { viewed frame_parts result ≡ request_frame span.now }
-    ensures kind { IfOk result (λ f. Fitting f.address) }
-    ensures means { MatchResult result (λ f. RequestFrame span.now (frame_parts f)) (λ _. (p : Parts) → RequestFrame span.now p → ⊥) }
-    ensures limit { OnOk result (length span.now ≤ 264) }
+    ensures means { FrameMeans result span.now }
+    ensures limit { OnOk result (length span.now ≤ longest_frame) }
 {
     match span {
-        [SHORT_REQUEST, _, rest @ ..] => frame_after(Address::Short(&span[1..2]), rest),
-        [LONG_REQUEST, _, _, _, _, _, rest @ ..] => frame_after(Address::Long(&span[1..6]), rest),
+        [SHORT_REQUEST, a, rest @ ..] => frame_after(Address::Short([*a]), rest),
+        [LONG_REQUEST, a, b, c, d, e, rest @ ..] => {
+            frame_after(Address::Long([*a, *b, *c, *d, *e]), rest)
+        }
         _ => Err(Refusal::OutOfForm),
     }
 }
 
 // The frame of an address and of what follows it, for either width.
-fn frame_after<'a>(address: Address<'a>, rest: &'a [u8]) -> Result<Frame<'a>, Refusal>
-    ensures value { viewed frame_parts result ≡ frame_after (address_bytes address.entry) rest.now }
-    ensures kind { Fitting address.entry → IfOk result (λ f. Fitting f.address) }
+fn frame_after(address: Address, rest: &[u8]) -> Result<Frame<'_>, Refusal>
+    ensures { viewed frame_parts result ≡ frame_after (address_bytes address) rest.now }
 {
     let [command, count, ..] = rest else {
         return Err(Refusal::OutOfForm);
@@ -64,7 +65,7 @@ fn frame_after<'a>(address: Address<'a>, rest: &'a [u8]) -> Result<Frame<'a>, Re
     })
 }
 
-// How many preambles stand before the start byte.
+/// How many preambles stand before the start byte.
 pub fn count_preambles(bytes: &[u8]) -> usize
     ensures value { result ≡ preambles_of bytes.now }
     ensures within { result ≤ length bytes.now }

@@ -7,7 +7,7 @@ use Rattle.frame.proofs.maker.put_frame.Goals as goal
 pub returns : goal.returns
 returns c =
     let at = c.args.at in
-    let e : length c.bytes.result.now ≡ length (address_bytes c.args.parts.address) = ap length c.bytes.ensures in
+    let e : length c.bytes.result.now ≡ length (address_bytes c.args.parts.address) = ap length c.bytes.ensures.value in
     let out = c.args.out.now in
     let a = c.bytes.result.now in
     let d = c.args.parts.«data».now in
@@ -26,4 +26,4 @@ returns c =
     let part : take (c.put-end-4.result - at) (drop at c.put-end-4.new.out) ≡ bare = rw (n, w4.holds) (placed_part at bare out room) in
     c.check-check.ensures ∙ ap check_of part in
     let w5 = wrote_more (check_of bare ∷ []) w4 room (rw (← check) c.put.ensures.after) c.put.ensures.next in
-    record { next = rw (← c.bytes.ensures) w5.ends; after = rw (← c.bytes.ensures) w5.holds }
+    record { next = rw (← c.bytes.ensures.value) w5.ends; after = rw (← c.bytes.ensures.value) w5.holds }

@@ -11,11 +11,11 @@ returns-in-130 c =
     let span = c.args.span.now in
     let bytes = All-from_get_or (λ b. b < 256) span 0 (λ i _. omega (arith, c.type_inv.span i)) in
     let value : viewed frame_parts c.frame_after.result ≡ request_frame span = let e = take_rest span 6 in search rules in
-    record { value = value; kind = c.frame_after.ensures.kind (search rules); means = frame_means c.frame_after.result span value; limit = frame_limit c.frame_after.result span bytes value }
+    record { value = value; means = frame_means c.frame_after.result span value; limit = frame_limit c.frame_after.result span bytes value }
 
 pub returns-in-2 : goal.returns-in-2
 returns-in-2 c =
     let span = c.args.span.now in
     let bytes = All-from_get_or (λ b. b < 256) span 0 (λ i _. omega (arith, c.type_inv.span i)) in
     let value : viewed frame_parts c.frame_after-in-2.result ≡ request_frame span = let e = take_rest span 2 in search rules in
-    record { value = value; kind = c.frame_after-in-2.ensures.kind (search rules); means = frame_means c.frame_after-in-2.result span value; limit = frame_limit c.frame_after-in-2.result span bytes value }
+    record { value = value; means = frame_means c.frame_after-in-2.result span value; limit = frame_limit c.frame_after-in-2.result span bytes value }
