@@ -28,7 +28,7 @@ loop-init g c = (
       let start : State = record { supply = c.args.supply; records = records; unended = [] } in
       let total = out ++ (lines_of c.args.format start (events_of bytes) ++ rest_line (rest_of bytes)) in
       let played = c.in-Ok.ensures.played in
-      let s : State = record { supply = c.args.supply; records = records_of c.in-Ok.panel.rack; unended = played.underway.line } in
+      let s : State = record { supply = c.args.supply; records = records_of c.in-Ok.panel.rack; unended = played.underway.pending } in
       let prints : Prints g.R.Read.remaining g.W.Write.contents p.stream (lines_of c.args.format start) 0 most total = record { events = events_of bytes; rest = rest_of bytes; out = out; streams = c.new-player.ensures.streams bytes out e f; few = omega arith; all = refl } in
       let going : Going g.R.Read.remaining g.W.Write.contents p (lines_of p.format start) 0 most total = rw (c.new-player.ensures.going, c.new-player.ensures.format) prints in
       let paused = driven g.R.Read.remaining g.W.Write.contents 255 c.args.supply (omega arith) p c.play.new.driver records s.records [] s.unended played.trace played.driven played.underway.ran 0 most total going in
