@@ -1,3 +1,5 @@
 pub mod Lawful
-pub mod Meaning
 pub mod Channels
+pub mod Meaning
+mod Texts
+pub mod Puts

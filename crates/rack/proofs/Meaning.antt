@@ -5,7 +5,7 @@ use Rattle.std.proofs.lemmas.Option.{none-some, same_Some}
 use Rattle.record.specs.Lawful.{Lawful}
 use Rattle.record.specs.declared.Record.{Record}
 use Rattle.rack.specs.Changes.{answer_of, record_after, written}
-use Rattle.rack.specs.declared.changes.Change.{Change}
+use Rattle.rack.specs.Edits.{Edit}
 use Rattle.rack.specs.Meaning.{told, record_at, channel_of, records_after, written_at}
 
 accepted_after : (w : Result Record ℕ) (r old : Record) (records : List Record) (channel : ℕ) → Ok tt ≡ answer_of w → r ≡ record_after w old → set records channel r ≡ records_after w records channel
@@ -13,8 +13,8 @@ accepted_after (Ok x) r old records channel e k = ap (set records channel) k
 accepted_after (Err m) r old records channel e k = cc
 
 -- an accepted one replaces the channel's record
-pub accepted_at : (records : List Record) (channel : ℕ) (change : Change) (old r : Record) → channel_of records channel ≡ Some old → Ok tt ≡ answer_of (written change old) → r ≡ record_after (written change old) old → set records channel r ≡ records_after (written_at records channel change) records channel
-accepted_at records channel change old r e a k = rw e (accepted_after (written change old) r old records channel a k)
+pub accepted_at : (records : List Record) (channel : ℕ) (edit : Edit) (old r : Record) → channel_of records channel ≡ Some old → Ok tt ≡ answer_of (written edit old) → r ≡ record_after (written edit old) old → set records channel r ≡ records_after (written_at records channel edit) records channel
+accepted_at records channel edit old r e a k = rw e (accepted_after (written edit old) r old records channel a k)
 
 record_lawful : (records : List Record) (n : ℕ) (r : Record) → AllByRecursion Lawful records → record_at records n ≡ Some r → Lawful r
 record_lawful [] n r h e = absurd (none-some r e)

@@ -2,6 +2,7 @@
 use Rattle.std.specs.Prelude.{false, replicate}
 use Rattle.setpoint.specs.Value.{value_of}
 use Rattle.record.specs.declared.Record.{Record}
+use Rattle.record.specs.Numbers.{least_preambles, text_length}
 
 -- everything at 0 but what cannot be: two preambles, a full scale of 1 mL/min
 abbrev pub blank_record : Record
@@ -10,7 +11,7 @@ blank_record = record {
     device_type = 0;
     identification = 0;
     polling_address = 0;
-    preambles = 2;
+    preambles = least_preambles;
     assembly_number = 0;
     changed = false;
     key_open = false;
@@ -20,5 +21,5 @@ blank_record = record {
     full_scale = 1;
   };
   reading = record { flow = value_of 0; temperature = value_of 0 };
-  text = replicate 45 0;
+  text = replicate text_length 0;
 }

@@ -1,9 +1,10 @@
 -- Record files: records of 80 bytes, one after another.
-use Rattle.std.specs.Prelude.{ℕ, suc, ◌/◌, ◌%◌, cond, ◌&&◌, List, [], ◌∷◌, ◌++◌, map, length, codes, decimal, Some, None, Ok, Err, Option, Result, ◌==◌, nat_le}
+use Rattle.std.specs.Prelude.{ℕ, suc, ◌/◌, ◌%◌, if◌then◌else◌, ◌&&◌, List, [], ◌∷◌, ◌++◌, map, length, codes, decimal, Some, None, Ok, Err, Option, Result, ◌==◌, nat_le}
 use Rattle.std.specs.Simd.{first_chunks}
 use Rattle.record.specs.Faults as faults
 use Rattle.record.specs.Faults.{fault_of}
 use Rattle.record.specs.Layout.{decoded}
+use Rattle.record.specs.Numbers.{record_length}
 use Rattle.record.specs.declared.Record.{Record}
 use Rattle.record.specs.declared.faults.RecordFault.{RecordFault}
 use Rattle.refusals.specs.Refusals as refusals
@@ -25,7 +26,7 @@ words_of (Bad e) = refusals.words_of BadRecord ++ codes " " ++ decimal e.number 
 
 -- the records of a file, as rows of 80 bytes
 abbrev pub rows_of : List ℕ → List (List ℕ)
-rows_of file = first_chunks 80 (length file / 80) file
+rows_of file = first_chunks record_length (length file / record_length) file
 
 abbrev pub fault_in : ℕ → Option RecordFault → Option RecordError → Option RecordError
 fault_in number (Some fault) rest = Some (record { number = number; fault = fault })
@@ -43,8 +44,9 @@ or_fault None = Ok tt
 -- what a file of at most this many records answers: first its length counts, then its records
 abbrev pub file_answer : ℕ → List ℕ → Result (Unit {0}) FileFault
 file_answer most file =
-    cond (length file % 80 == 0 && nat_le 1 (length file / 80) && nat_le (length file / 80) most)
-    (or_fault (first_bad 0 (rows_of file))) (Err Count)
+    if length file % record_length == 0 && nat_le 1 (length file / record_length) && nat_le (length file / record_length) most
+    then or_fault (first_bad 0 (rows_of file))
+    else Err Count
 
 -- the records of a file
 abbrev pub file_records : List ℕ → List Record

@@ -1,10 +1,11 @@
+//! A record to begin with.
 ghost use Rattle.std.specs.Prelude.{◌≡◌};
 ghost use Rattle.record.specs.Lawful.{Lawful};
 ghost use Rattle.rack.specs.Blank.{blank_record};
 
 use record::{Fields, MIN_PREAMBLES, Reading, Record, TEXT_LENGTH, value_of};
 
-// A lawful record to begin with: everything at 0 but two preambles and a full scale of 1 mL/min.
+/// A lawful record to begin with: everything at 0 but two preambles and a full scale of 1 mL/min.
 pub fn blank_record() -> Record
     ensures value { result ≡ blank_record }
     ensures lawful { Lawful result }

@@ -1,6 +1,7 @@
+//! Writes, as they are handed to a rack.
 use record::Reading;
 
-// A write to one channel: a value for one field.
+/// A write to one channel: a value for one field.
 #[derive(Clone, Copy)]
 pub enum Change<'a> {
     PollingAddress(u8),

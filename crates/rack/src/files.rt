@@ -1,3 +1,4 @@
+//! What can be wrong with a record file.
 ghost use Rattle.std.specs.Prelude.{◌≡◌, Some, None, OnOk};
 ghost use Rattle.std.specs.Result.{result_err};
 ghost use Rattle.record.specs.Faults.{fault_of};
@@ -11,14 +12,14 @@ use refusals::Refusal;
 use std::error::Error;
 use std::fmt;
 
-// A record of a file with a field out of range: which record, and which field.
+/// A record of a file with a field out of range: which record, and which field.
 #[derive(Clone, Copy, PartialEq, Debug)]
 pub struct RecordError {
     pub number: usize,
     pub fault: RecordFault,
 }
 
-// Why a record file is refused.
+/// Why a record file is refused.
 #[derive(Clone, Copy, PartialEq, Debug)]
 pub enum FileFault {
     // It is not of 1 to 15 records, for a single instrument not of one.
@@ -28,7 +29,7 @@ pub enum FileFault {
 }
 
 impl FileFault {
-    // A method and no `From`: it leaves out which record and which field.
+    /// A method and no `From`: it leaves out which record and which field.
     pub fn refusal(self) -> Refusal
         ensures { result ≡ refusal_of self }
     {
@@ -64,7 +65,7 @@ impl From<RecordError> for FileFault {
     }
 }
 
-// Whether a record of a file is lawful.
+/// Whether a record of a file is lawful.
 pub fn check_record(number: usize, row: &[u8; RECORD_LENGTH]) -> Result<(), RecordError>
     ensures fault { result_err result ≡ fault_in number (fault_of row.now) None }
     ensures lawful { OnOk result (Lawful (decoded row.now)) }

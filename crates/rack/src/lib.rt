@@ -1,4 +1,4 @@
-// Racks of channels, by the list of records that they mean.
+//! Racks of channels, by the list of records that they mean.
 #![tactic(auto)]
 
 mod blank;

@@ -1,3 +1,4 @@
+//! Why a rack refuses.
 ghost use Rattle.std.specs.Prelude.{◌≡◌};
 ghost use Rattle.rack.specs.Refusals.{number_of};
 ghost use Rattle.rack.specs.declared.refusal.RackRefusal.TheVariants.{Call};
@@ -6,8 +7,8 @@ ghost use Rattle.setpoint.specs.Refusals.{code_of};
 use refusals::Refusal;
 use setpoint::SetpointRefusal;
 
-// Why a rack refuses: by a response code of the line, or as any call refuses. Without numbers of its own, as an enum of numbers
-// has no case that holds a refusal.
+/// Why a rack refuses: by a response code of the line, or as any call refuses. Without numbers of its own, as an enum of numbers
+/// has no case that holds a refusal.
 #[derive(Clone, Copy, PartialEq, Debug)]
 pub enum RackRefusal {
     InvalidSelection,

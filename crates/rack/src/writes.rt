@@ -1,8 +1,11 @@
-ghost use Rattle.std.specs.Prelude.{◌≡◌, ◌^◌, ◌<◌, if◌then◌else◌, Ok, Err};
+//! The one write to a record.
+ghost use Rattle.std.specs.Prelude.{◌≡◌, ◌^◌, ◌<◌, if◌then◌else◌, Ok, Err, OnOk};
 ghost use Rattle.refusals.specs.Filling.{placed};
 ghost use Rattle.record.specs.Lawful.{Lawful};
-ghost use Rattle.rack.specs.Refusals.{numbered};
 ghost use Rattle.rack.specs.Changes.{written, answer_of, record_after, stored_pattern, text_run?};
+ghost use Rattle.rack.specs.Edits.{edit_of};
+ghost use Rattle.rack.specs.Puts.{Puts};
+ghost use Rattle.rack.specs.Refusals.{numbered, out_of_form};
 
 use crate::changes::Change;
 use crate::refusal::RackRefusal;
@@ -13,11 +16,12 @@ const MAX_TEXT_RUN: usize = 24;
 
 const MINUS_ZERO: u32 = 0x8000_0000;
 
-// Writes one field of a record, or refuses and leaves it as it was. That a lawful record stays lawful is a clause and not a type:
-// a record that is not lawful can be written too.
+/// Writes one field of a record, or refuses and leaves it as it was. That a lawful record stays lawful is a clause and not a type:
+/// a record that is not lawful can be written too.
 pub fn apply(record: &mut Record, change: Change<'_>) -> Result<(), RackRefusal>
-    ensures answer { numbered result ≡ answer_of (written change.entry «record».old) }
-    ensures after { «record».new ≡ record_after (written change.entry «record».old) «record».old }
+    ensures answer { numbered result ≡ answer_of (written (edit_of change.entry) «record».old) }
+    ensures after { «record».new ≡ record_after (written (edit_of change.entry) «record».old) «record».old }
+    ensures puts { OnOk result (Puts (edit_of change.entry) «record».old «record».new) }
     ensures lawful { Lawful «record».old → Lawful «record».new }
 {
     match change {
@@ -69,7 +73,7 @@ fn stored(pattern: u32) -> u32
 
 // Writes a run of text bytes from a place on.
 fn put_text(text: &mut [u8; TEXT_LENGTH], place: usize, bytes: &[u8]) -> Result<(), RackRefusal>
-    ensures answer { numbered result ≡ (if text_run? place bytes.now then Ok tt else Err 110) }
+    ensures answer { numbered result ≡ (if text_run? place bytes.now then Ok tt else Err out_of_form) }
     ensures after { text.new ≡ (if text_run? place bytes.now then placed place bytes.now text.old else text.old) }
 {
     if bytes.len() > MAX_TEXT_RUN || place > TEXT_LENGTH - bytes.len() {

@@ -22,7 +22,10 @@ most_ceiling = 100
 abbrev pub end_of_24_bits : ℕ
 end_of_24_bits = 2 ^ 24
 
--- How many bytes of text a record has.
+-- How many bytes a record has, and how many of them are text.
+abbrev pub record_length : ℕ
+record_length = 80
+
 abbrev pub text_length : ℕ
 text_length = 45
 

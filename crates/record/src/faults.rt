@@ -88,3 +88,32 @@ fn offends(bytes: &[u8; RECORD_LENGTH], fault: RecordFault) -> bool
         RecordFault::Reserved => !all_zero(&bytes[RESERVED_AT..]),
     }
 }
+
+#[cfg(test)]
+mod tests {
+    use super::*;
+    use std::fmt::Write;
+
+    // A writer that takes one piece of text and fails at the next.
+    #[derive(Drop)]
+    struct Narrow {
+        pieces: u8,
+    }
+
+    impl fmt::Write for Narrow {
+        fn write_str(&mut self, _text: &str) -> fmt::Result {
+            if self.pieces > 0 {
+                return Err(fmt::Error);
+            }
+            self.pieces = 1;
+            Ok(())
+        }
+    }
+
+    #[test]
+    fn a_writer_that_fails(rt: HostRuntime) {
+        let mut narrow = Narrow { pieces: 0 };
+        assert!(rt; write!(narrow, "{}", RecordFault::Flags).is_err());
+        assert_eq!(rt; narrow.pieces, 1);
+    }
+}
