@@ -1,28 +1,34 @@
 -- A gas flow channel keeps the laws of a device.
-use Rattle.std.proofs.Common.{◌≡◌, ℕ, ◌≤◌, Bool, true, false, cond, ◌&&◌, eqb, ◌⊎◌, List, length, get_or, Some, None, Option, sym, refl, ap, ◌∙◌, inl, inr, true≢false, arith}
-use Rattle.std.specs.Result.{result_err}
-use Rattle.std.proofs.lemmas.Bool.{cases_Bool, and_parts, and_from, eqb-true, ne_eqb}
+use Rattle.std.proofs.Common.{◌≡◌, ℕ, ◌≤◌, Bool, true, false, cond, ◌&&◌, eqb, ◌⊎◌, List, [], is_ok, length, Some, None, Option, sym, refl, ap, ◌∙◌, subst, inl, inr, true≢false, arith}
+use Rattle.std.specs.Option.{option_map_or}
+use Rattle.std.specs.Prelude.{slice_get}
+use Rattle.std.proofs.lemmas.Bool.{cases_Bool, and_parts, and_from, ne_eqb}
 use Rattle.frame.specs.Frames.{Parts}
 use Rattle.setpoint.specs.Load.{load_of}
+use Rattle.setpoint.specs.Refusals.{admitted_under}
 use Rattle.setpoint.specs.Share.{share_of}
 use Rattle.setpoint.specs.Value.{value_of}
-use Rattle.record.specs.Bytes.{number32}
-use Rattle.record.specs.Readings.{is_finite}
+use Rattle.record.specs.declared.Fields.{Fields}
 use Rattle.record.specs.declared.Record.{Record}
-use Rattle.rack.specs.Changes.{written, stored_pattern, record_after}
-use Rattle.line.specs.Addressing.{tag_means, tag_of, means}
-use Rattle.line.specs.Answers.{Outcome, carried, by_code, communication_error, own_outcome, answer_bytes, refused, status_of}
+use Rattle.rack.specs.Changes.{refused_by, written, stored_pattern, record_after}
+use Rattle.line.specs.Addressing.{tag_means?, tag_of, means?}
 use Rattle.line.specs.Characters.{Character, Reception, received}
 use Rattle.line.specs.Codes as codes
-use Rattle.line.specs.Codes.{own_code}
-use Rattle.line.specs.Effects.{effect}
-use Rattle.line.specs.Requests.{asked_by}
+use Rattle.line.specs.Codes.{code_number, known?, percent?, own_code, success?, asked_share}
+use Rattle.line.specs.Commands.{command_of, counted?}
+use Rattle.line.specs.Edits.{edits_of}
+use Rattle.line.specs.Judgements.{Judgement, damaged, refused, accepted, judged_by, own_judgement, changed_by, carried, answer_bytes}
+use Rattle.line.specs.Requests.{asked_of, bare}
 use Rattle.line.specs.Whole.{sound?, error_status}
-use Rattle.runs.specs.Channel.{Operation, sample, key, change_of, nameplate, Granted, granted_in, after_command, after_reply, after_operation, share_of_grant, means_frame, asks_frame, served_frame, answer_frame, denial_frame, setpoint_frame?, asked_frame, means_by, asks_by, frame_in, flow_channel}
+use Rattle.line.specs.declared.codes.ResponseCode.{ResponseCode}
+use Rattle.line.specs.declared.codes.ResponseCode.TheVariants.{Success, AccessRestricted, NotImplemented}
+use Rattle.line.specs.declared.commands.Command.{Command}
+use Rattle.line.specs.declared.commands.Command.TheVariants.{WriteSetpoint}
+use Rattle.runs.specs.Channel.{Operation, sample, key, edit_for, nameplate, Granted, granted_in, pattern_in, after_command, tells?, after_reply, after_operation, share_of_grant, setpoint?, asks?, asks_by?, means_by?, after_frame, reply_to, denial_to, frame_in, flow_channel}
 use Rattle.runs.specs.Damage.{Damaged, CommunicationError}
 use Rattle.runs.specs.Devices.{DeviceLaws}
-use Rattle.runs.proofs.Answers.{wide, content_answer}
-use Rattle.runs.proofs.Effects.{either_way, written_nameplate, effect_nameplate, effect_granted, setpoint?, own_setpoint, own_code_lem, load_stored}
+use Rattle.runs.proofs.Answers.{wide, content_answer, status_answer}
+use Rattle.runs.proofs.Effects.{after_write, written_nameplate, edits_nameplate, edits_granted, setpoint_kept, known_setpoint, own_setpoint, own_code_lem, load_stored}
 use Rattle.runs.proofs.Unsound.{unsound, whole_frame, sound_of}
 
 -- an address of one or five bytes
@@ -32,107 +38,126 @@ Wide f = (length f.address ≡ 1) ⊎ (length f.address ≡ 5)
 wide_in : (t : List Character) (f : Parts) → frame_in t ≡ Some f → Wide f
 wide_in t f e = wide _ f (whole_frame t f e).1
 
-status_answer : (f : Parts) (o : Outcome) → Wide f → status_of (answer_bytes f o) ≡ o.status
-status_answer f o w = ap (λ d. get_or d 0 0) (content_answer f o w)
-
 pub error_above : (x : Reception) → 128 ≤ error_status x
 error_above x = omega arith
 
 error_differs : (x : Reception) (n : ℕ) → n ≤ 127 → eqb (error_status x) n ≡ false
 error_differs x n l = ne_eqb (error_status x) n (λ e. omega (arith, error_above x, e))
 
--- what holds of each outcome of a frame: a communication error, an accepted command, a refused one
-outcomes : (P : Outcome → Type 0) (x : Reception) (f : Parts) (r : Record)
-    → (sound? x ≡ false → P (communication_error (error_status x) r))
-    → (sound? x ≡ true → own_code f.command f.«data» r ≡ 0 → P (by_code 0 f.command f.«data» r))
-    → (sound? x ≡ true → eqb (own_code f.command f.«data» r) 0 ≡ false → P (refused (own_code f.command f.«data» r) r))
-    → P (own_outcome x f r)
-outcomes P x f r error accepted other = elim (cases_Bool (sound? x)) [
+-- what holds of each judgement of a frame: a communication error, an accepted command, a refused one
+judgements : (P : Judgement → Type 0) (x : Reception) (f : Parts) (fields : Fields)
+    → (sound? x ≡ false → P (damaged (error_status x)))
+    → ((command : Command) → sound? x ≡ true → command_of f.command ≡ Some command → success? (own_code (Some command) f.«data» fields) ≡ true → P (accepted command f.«data»))
+    → ((code : ResponseCode) → success? code ≡ false → eqb (code_number code) 16 ≡ false → P (refused code))
+    → P (own_judgement x f fields)
+judgements P x f fields error accept other = elim (cases_Bool (sound? x)) [
   | inr s ↦ rw s (error s)
-  | inl s ↦ elim (cases_Bool (eqb (own_code f.command f.«data» r) 0)) [
-    | inl c ↦ let z = eqb-true (own_code f.command f.«data» r) 0 c in rw (s, z) (accepted s z)
-    | inr c ↦ rw (s, c) (other s c)
-  ]
+  | inl s ↦ rw s (known s (command_of f.command) refl)
 ]
+  where
+    known : sound? x ≡ true → (o : Option Command) → command_of f.command ≡ o → P (judged_by (own_code o f.«data» fields) o f.«data»)
+    known s None e = other NotImplemented refl refl
+    known s (Some command) e = elim (cases_Bool (success? (own_code (Some command) f.«data» fields))) [
+      | inl c ↦ rw c (accept command s e c)
+      | inr c ↦ rw c (other (own_code (Some command) f.«data» fields) c (own_code_lem (Some command) f.«data» fields))
+    ]
 
-module _ (x : Reception) (f : Parts) (r : Record) (w : Wide f) where
-  served_nameplate_of : nameplate (own_outcome x f r).after ≡ nameplate r
-  served_nameplate_of = outcomes (λ o. nameplate o.after ≡ nameplate r) x f r (λ _. refl) (λ _ _. effect_nameplate f.command f.«data» r) (λ _ _. refl)
+module _ (f : Parts) (w : Wide f) where
+  -- the code that an answer tells, by its judgement
+  abbrev Told : ResponseCode → Judgement → Bool
+  Told code (damaged status) = eqb status (code_number code)
+  Told code (refused given) = eqb (code_number given) (code_number code)
+  Told code (accepted command bytes) = eqb 0 (code_number code)
 
-  abbrev Tells : Outcome → Type 0
-  Tells o = granted_in o.after ≡ cond (eqb o.status 0) (after_command f.command f.«data» (granted_in r)) (granted_in r)
+  told : (code : ResponseCode) (j : Judgement) (r : Record) → tells? code (answer_bytes f j r) ≡ Told code j
+  told code j r = ap (λ (o : Option ℕ). option_map_or (λ n. eqb n (code_number code)) o false) (status_answer f j r w) ∙ by_case j
+    where
+      by_case : (j : Judgement) → option_map_or (λ n. eqb n (code_number code)) (slice_get (carried j r) 0) false ≡ Told code j
+      by_case (damaged status) = refl
+      by_case (refused given) = refl
+      by_case (accepted command bytes) = refl
 
-  tells_of : Tells (own_outcome x f r)
-  tells_of = outcomes Tells x f r
-      (λ _. rw (error_differs x 0 (omega arith)) refl)
-      (λ _ c. effect_granted f.command f.«data» r c)
-      (λ _ c. rw c refl)
+  module _ (x : Reception) (r : Record) where
+    served_nameplate_of : nameplate (after_frame x r f) ≡ nameplate r
+    served_nameplate_of = judgements (λ j. nameplate (changed_by j r) ≡ nameplate r) x f r.fields (λ _. refl) (λ command _ _ _. edits_nameplate (edits_of command f.«data») r) (λ _ _ _. refl)
 
-  served_grant_of : granted_in (own_outcome x f r).after ≡ after_reply (Some f) (granted_in r) (answer_bytes f (own_outcome x f r))
-  served_grant_of = tells_of ∙ sym (ap (λ n. cond (eqb n 0) (after_command f.command f.«data» (granted_in r)) (granted_in r)) (status_answer f (own_outcome x f r) w))
+    -- what is granted where this is told
+    abbrev Grants : Bool → Granted
+    Grants b = cond b (option_map_or (after_command f.«data» (granted_in r)) (command_of f.command) (granted_in r)) (granted_in r)
 
-  denied_grant_of : after_reply (Some f) (granted_in r) (answer_bytes f (refused 16 r)) ≡ granted_in r
-  denied_grant_of = ap (λ n. cond (eqb n 0) (after_command f.command f.«data» (granted_in r)) (granted_in r)) (status_answer f (refused 16 r) w)
+    served_grant_of : granted_in (after_frame x r f) ≡ after_reply f (granted_in r) (reply_to x r f)
+    served_grant_of =
+        judgements (λ j. granted_in (changed_by j r) ≡ Grants (Told Success j)) x f r.fields
+        (λ _. rw (error_differs x 0 (omega arith)) refl)
+        (λ command _ e _. rw e (edits_granted command f.«data» r))
+        (λ code c _. rw c refl)
+        ∙ sym (ap Grants (told Success (own_judgement x f r.fields) (after_frame x r f)))
 
-  reply_differs_of : eqb (status_of (answer_bytes f (own_outcome x f r))) 16 ≡ false
-  reply_differs_of =
-      ap (λ n. eqb n 16) (status_answer f (own_outcome x f r) w)
-      ∙ outcomes (λ o. eqb o.status 16 ≡ false) x f r (λ _. error_differs x 16 (omega arith)) (λ _ _. refl) (λ _ _. own_code_lem f.command f.«data» r)
+    reply_differs_of : tells? AccessRestricted (reply_to x r f) ≡ false
+    reply_differs_of =
+        told AccessRestricted (own_judgement x f r.fields) (after_frame x r f)
+        ∙ judgements (λ j. Told AccessRestricted j ≡ false) x f r.fields (λ _. error_differs x 16 (omega arith)) (λ _ _ _ _. refl) (λ _ _ d. d)
 
-  denial_is_of : eqb (status_of (answer_bytes f (refused 16 r))) 16 ≡ true
-  denial_is_of = ap (λ n. eqb n 16) (status_answer f (refused 16 r) w)
+    -- a command that asks for nothing leaves the setpoint
+    served_share_of : asks? x r f ≡ false → (granted_in (after_frame x r f)).setpoint ≡ r.fields.setpoint
+    served_share_of a = judgements (λ j. (granted_in (changed_by j r)).setpoint ≡ r.fields.setpoint) x f r.fields
+        (λ _. refl)
+        (λ command s e c.
+        let k : codes.setpoint? command ≡ false = elim (cases_Bool (codes.setpoint? command)) [
+          | inl p ↦
+              let own : codes.asks? (command_of f.command) f.«data» r.fields ≡ true =
+              subst (λ (o : Option Command). codes.asks? o f.«data» r.fields ≡ true) (sym e) (and_from (codes.setpoint? command) (success? (own_code (Some command) f.«data» r.fields)) p c) in
+              absurd (true≢false (sym (and_from (sound? x) (codes.asks? (command_of f.command) f.«data» r.fields) s own) ∙ a))
+          | inr p ↦ p
+        ] in
+        ap (λ (g : Granted). g.setpoint) (edits_granted command f.«data» r) ∙ setpoint_kept command f.«data» (granted_in r) k)
+        (λ _ _ _. refl)
 
-  -- a command that asks for nothing leaves the setpoint
-  setpoint_kept : eqb f.command 236 ≡ false → (g : Granted) → (after_command f.command f.«data» g).setpoint ≡ g.setpoint
-  setpoint_kept c g = rw c (either_way (λ (h : Granted). h.setpoint ≡ g.setpoint) (eqb f.command 6) _ _ refl refl)
+    asks_parts : asks? x r f ≡ true → (sound? x ≡ true) × (command_of f.command ≡ Some WriteSetpoint) × (success? (own_code (Some WriteSetpoint) f.«data» r.fields) ≡ true)
+    asks_parts a =
+        let p = and_parts (sound? x) (codes.asks? (command_of f.command) f.«data» r.fields) a in
+        let q = and_parts (setpoint? f) (success? (own_code (command_of f.command) f.«data» r.fields)) p.1 in
+        let e = known_setpoint (command_of f.command) q.0 in
+        (p.0, e, rw e at q.1)
 
-  served_share_of : asks_frame (Some f) x r ≡ false → (granted_in (own_outcome x f r).after).setpoint ≡ r.fields.setpoint
-  served_share_of a = outcomes (λ o. (granted_in o.after).setpoint ≡ r.fields.setpoint) x f r
-      (λ _. refl)
-      (λ s c. ap (λ (g : Granted). g.setpoint) (effect_granted f.command f.«data» r c) ∙ elim (cases_Bool (eqb f.command 236)) [
-        | inl e ↦ let z : ◌≡◌ {A = Bool} true false = sym (and_from (sound? x) (codes.asks? f.command f.«data» r) s (and_from (eqb f.command 236) (eqb (own_code f.command f.«data» r) 0) e (ap (λ n. eqb n 0) c))) ∙ a in absurd (true≢false z)
-        | inr e ↦ setpoint_kept e (granted_in r)
-      ])
-      (λ _ _. refl)
+    asked_setpoint_of : asks? x r f ≡ true → (granted_in (after_frame x r f)).setpoint ≡ stored_pattern (pattern_in f.«data»)
+    asked_setpoint_of a =
+        let p = asks_parts a in
+        let s = p.0 in
+        let e = p.1 in
+        let c = p.2 in
+        rw (s, e, c) refl
 
-  asks_parts : asks_frame (Some f) x r ≡ true → (sound? x ≡ true) × (f.command ≡ 236) × (own_code f.command f.«data» r ≡ 0)
-  asks_parts a =
-      let p = and_parts (sound? x) (codes.asks? f.command f.«data» r) a in
-      let q = and_parts (eqb f.command 236) (eqb (own_code f.command f.«data» r) 0) p.1 in
-      (p.0, eqb-true f.command 236 q.0, eqb-true (own_code f.command f.«data» r) 0 q.1)
+  denied_grant_of : (r : Record) → after_reply f (granted_in r) (denial_to r f) ≡ granted_in r
+  denied_grant_of r = ap (λ b. cond b (option_map_or (after_command f.«data» (granted_in r)) (command_of f.command) (granted_in r)) (granted_in r)) (told Success (refused AccessRestricted) r)
 
-  asked_setpoint_of : asks_frame (Some f) x r ≡ true → (granted_in (own_outcome x f r).after).setpoint ≡ stored_pattern (number32 f.«data» 1)
-  asked_setpoint_of a =
-      let p = asks_parts a in
-      let s = p.0 in
-      let z = p.2 in
-      let e : (own_outcome x f r).after ≡ effect f.command f.«data» r = rw (s, z) refl in
-      ap (λ (q : Record). (granted_in q).setpoint) e ∙ (ap (λ (g : Granted). g.setpoint) (effect_granted f.command f.«data» r z) ∙ ap (λ n. (after_command n f.«data» (granted_in r)).setpoint) p.1)
+  denial_is_of : (r : Record) → tells? AccessRestricted (denial_to r f) ≡ true
+  denial_is_of r = told AccessRestricted (refused AccessRestricted) r
 
 -- a setpoint command is judged by nameplate and grants
-asks_own : (command : ℕ) (bytes : List ℕ) (r : Record) → codes.asks? command bytes r ≡ (eqb command 236 && setpoint? bytes r)
-asks_own command bytes r = elim (cases_Bool (eqb command 236)) [
-  | inl e ↦ let c = eqb-true command 236 e in rw c (own_setpoint bytes r)
-  | inr e ↦ rw e refl
-]
+asks_own : (o : Option Command) (bytes : List ℕ) (r : Record)
+    → codes.asks? o bytes r.fields ≡ (known? codes.setpoint? o && (counted? WriteSetpoint bytes && (r.fields.key_open && (percent? bytes && is_ok (admitted_under r.fields.ceiling (value_of (pattern_in bytes)))))))
+asks_own None bytes r = refl
+asks_own (Some WriteSetpoint) bytes r = own_setpoint bytes r.fields
+asks_own (Some command) bytes r = refl
 
 and_true : (b : Bool) → (b && true) ≡ b
 and_true true = refl
 and_true false = refl
 
-untagged : (command : ℕ) (bytes tag : List ℕ) → eqb command 236 ≡ true → tag_means (asked_by command bytes) tag ≡ true
-untagged command bytes tag e = let c = eqb-true command 236 e in rw c refl
+untagged : (o : Option Command) (n : ℕ) (bytes tag : List ℕ) → known? codes.setpoint? o ≡ true → tag_means? (option_map_or (λ c. asked_of c bytes) o (bare n)) tag ≡ true
+untagged o n bytes tag e = let k = known_setpoint o e in rw k refl
 
-meant_by_of : (f : Parts) (r : Record) → eqb f.command 236 ≡ true → means f r ≡ means_by (Some f) (nameplate r) (granted_in r)
-meant_by_of f r e = let m = means_by (Some f) (nameplate r) (granted_in r) in ap (λ b. m && b) (untagged f.command f.«data» (tag_of r) e) ∙ and_true m
+meant_by_of : (f : Parts) (r : Record) → setpoint? f ≡ true → means? f r ≡ means_by? (nameplate r) (granted_in r) f
+meant_by_of f r e = let m = means_by? (nameplate r) (granted_in r) f in ap (λ b. m && b) (untagged (command_of f.command) f.command f.«data» (tag_of r) e) ∙ and_true m
 
 -- local operations
-operated_grant_of : (r : Record) (u : Operation) → granted_in (record_after (written (change_of u) r) r) ≡ after_operation (granted_in r) u (result_err (written (change_of u) r))
-operated_grant_of r (sample reading) = either_way (λ x. granted_in (record_after x r) ≡ granted_in r) (is_finite reading) _ _ refl refl
+operated_grant_of : (r : Record) (u : Operation) → granted_in (record_after (written (edit_for u) r) r) ≡ after_operation (granted_in r) u (refused_by (edit_for u) r.fields)
+operated_grant_of r (sample reading) = after_write (λ s. granted_in s ≡ granted_in r) (edit_for (sample reading)) r refl refl
 operated_grant_of r (key open?) = refl
 
-operated_setpoint_of : (r : Record) (u : Operation) → (record_after (written (change_of u) r) r).fields.setpoint ≡ r.fields.setpoint
-operated_setpoint_of r (sample reading) = either_way (λ x. (record_after x r).fields.setpoint ≡ r.fields.setpoint) (is_finite reading) _ _ refl refl
+operated_setpoint_of : (r : Record) (u : Operation) → (record_after (written (edit_for u) r) r).fields.setpoint ≡ r.fields.setpoint
+operated_setpoint_of r (sample reading) = after_write (λ s. s.fields.setpoint ≡ r.fields.setpoint) (edit_for (sample reading)) r refl refl
 operated_setpoint_of r (key open?) = refl
 
 -- damage
@@ -142,66 +167,75 @@ damaged_false t f e d = elim (cases_Bool (sound? (received t))) [
   | inr s ↦ s
 ]
 
-damaged_outcome : (t : List Character) (f : Parts) (r : Record) → frame_in t ≡ Some f → Damaged t → own_outcome (received t) f r ≡ communication_error (error_status (received t)) r
-damaged_outcome t f r e d = rw (damaged_false t f e d) refl
+damaged_judgement : (t : List Character) (f : Parts) (r : Record) → frame_in t ≡ Some f → Damaged t → own_judgement (received t) f r.fields ≡ damaged (error_status (received t))
+damaged_judgement t f r e d = rw (damaged_false t f e d) refl
 
 -- each law, whether the transmission is whole or not
 module _ (t : List Character) (r : Record) where
   abbrev At : (Option Parts → Type 0) → Type 0
   At P = (o : Option Parts) → frame_in t ≡ o → P o
 
-  nameplate_law : At (λ o. nameplate (served_frame o (received t) r) ≡ nameplate r)
-  nameplate_law (Some f) e = served_nameplate_of (received t) f r (wide_in t f e)
+  -- what is made of a frame, if there is one
+  abbrev made : {X : Type 0} → Option Parts → X → (Parts → X) → X
+  made o otherwise make = option_map_or make o otherwise
+
+  abbrev served : Option Parts → Record
+  served o = made o r (after_frame (received t) r)
+
+  nameplate_law : At (λ o. nameplate (served o) ≡ nameplate r)
+  nameplate_law (Some f) e = served_nameplate_of f (wide_in t f e) (received t) r
   nameplate_law None e = refl
 
-  grant_law : At (λ o. granted_in (served_frame o (received t) r) ≡ after_reply o (granted_in r) (answer_frame o (received t) r))
-  grant_law (Some f) e = served_grant_of (received t) f r (wide_in t f e)
+  grant_law : At (λ o. granted_in (served o) ≡ made o (granted_in r) (λ f. after_reply f (granted_in r) (made o [] (reply_to (received t) r))))
+  grant_law (Some f) e = served_grant_of f (wide_in t f e) (received t) r
   grant_law None e = refl
 
-  denied_law : At (λ o. after_reply o (granted_in r) (denial_frame o r) ≡ granted_in r)
-  denied_law (Some f) e = denied_grant_of (received t) f r (wide_in t f e)
+  denied_law : At (λ o. made o (granted_in r) (λ f. after_reply f (granted_in r) (made o [] (denial_to r))) ≡ granted_in r)
+  denied_law (Some f) e = denied_grant_of f (wide_in t f e) r
   denied_law None e = refl
 
-  kept_law : At (λ o. asks_frame o (received t) r ≡ false → (granted_in (served_frame o (received t) r)).setpoint ≡ r.fields.setpoint)
-  kept_law (Some f) e = served_share_of (received t) f r (wide_in t f e)
+  kept_law : At (λ o. made o false (asks? (received t) r) ≡ false → (granted_in (served o)).setpoint ≡ r.fields.setpoint)
+  kept_law (Some f) e = served_share_of f (wide_in t f e) (received t) r
   kept_law None e = λ _. refl
 
-  asked_law : At (λ o. asks_frame o (received t) r ≡ true → share_of_grant (nameplate r) (granted_in (served_frame o (received t) r)) ≡ asked_frame o (nameplate r))
-  asked_law (Some f) e = λ a. ap (λ p. share_of (load_of (value_of p)) r.fields.full_scale) (asked_setpoint_of (received t) f r (wide_in t f e) a) ∙ ap (λ l. share_of l r.fields.full_scale) (load_stored (number32 f.«data» 1))
+  asked_law : At (λ o. made o false (asks? (received t) r) ≡ true → share_of_grant (nameplate r) (granted_in (served o)) ≡ made o 0 (λ f. asked_share f.«data» r.fields.full_scale))
+  asked_law (Some f) e = λ a. ap (λ p. share_of (load_of (value_of p)) r.fields.full_scale) (asked_setpoint_of f (wide_in t f e) (received t) r a) ∙ ap (λ l. share_of l r.fields.full_scale) (load_stored (pattern_in f.«data»))
   asked_law None e = λ a. absurd (true≢false (sym a))
 
-  differs_law : At (λ o. means_frame o r ≡ true → eqb (status_of (answer_frame o (received t) r)) 16 ≡ false)
-  differs_law (Some f) e = λ _. reply_differs_of (received t) f r (wide_in t f e)
+  differs_law : At (λ o. made o false (λ f. means? f r) ≡ true → tells? AccessRestricted (made o [] (reply_to (received t) r)) ≡ false)
+  differs_law (Some f) e = λ _. reply_differs_of f (wide_in t f e) (received t) r
   differs_law None e = λ m. absurd (true≢false (sym m))
 
-  denial_law : At (λ o. means_frame o r ≡ true → eqb (status_of (denial_frame o r)) 16 ≡ true)
-  denial_law (Some f) e = λ _. denial_is_of (received t) f r (wide_in t f e)
+  denial_law : At (λ o. made o false (λ f. means? f r) ≡ true → tells? AccessRestricted (made o [] (denial_to r)) ≡ true)
+  denial_law (Some f) e = λ _. denial_is_of f (wide_in t f e) r
   denial_law None e = λ m. absurd (true≢false (sym m))
 
-  command_law : At (λ o. asks_frame o (received t) r ≡ true → setpoint_frame? o ≡ true)
-  command_law (Some f) e = λ a. ap (λ n. eqb n 236) (asks_parts (received t) f r (wide_in t f e) a).1
+  command_law : At (λ o. made o false (asks? (received t) r) ≡ true → made o false setpoint? ≡ true)
+  command_law (Some f) e = λ a. ap (known? codes.setpoint?) (asks_parts f (wide_in t f e) (received t) r a).1
   command_law None e = λ a. a
 
-  asks_law : At (λ o. asks_frame o (received t) r ≡ asks_by o (received t) (nameplate r) (granted_in r))
-  asks_law (Some f) e = ap (λ b. sound? (received t) && b) (asks_own f.command f.«data» r)
+  asks_law : At (λ o. made o false (asks? (received t) r) ≡ made o false (asks_by? (received t) (nameplate r) (granted_in r)))
+  asks_law (Some f) e = ap (λ b. sound? (received t) && b) (asks_own (command_of f.command) f.«data» r)
   asks_law None e = refl
 
-  meant_law : At (λ o. setpoint_frame? o ≡ true → means_frame o r ≡ means_by o (nameplate r) (granted_in r))
+  meant_law : At (λ o. made o false setpoint? ≡ true → made o false (λ f. means? f r) ≡ made o false (means_by? (nameplate r) (granted_in r)))
   meant_law (Some f) e = meant_by_of f r
   meant_law None e = λ _. refl
 
-  unserved_law : Damaged t → At (λ o. served_frame o (received t) r ≡ r)
-  unserved_law d (Some f) e = ap (λ (o : Outcome). o.after) (damaged_outcome t f r e d)
+  unserved_law : Damaged t → At (λ o. served o ≡ r)
+  unserved_law d (Some f) e = ap (λ (j : Judgement). changed_by j r) (damaged_judgement t f r e d)
   unserved_law d None e = refl
 
-  unasked_law : Damaged t → At (λ o. asks_frame o (received t) r ≡ false)
+  unasked_law : Damaged t → At (λ o. made o false (asks? (received t) r) ≡ false)
   unasked_law d (Some f) e = rw (damaged_false t f e d) refl
   unasked_law d None e = refl
 
-  error_law : Damaged t → At (λ o. means_frame o r ≡ true → CommunicationError (answer_frame o (received t) r))
+  error_law : Damaged t → At (λ o. made o false (λ f. means? f r) ≡ true → CommunicationError (made o [] (reply_to (received t) r)))
   error_law d (Some f) e = λ _. record {
     status = error_status (received t);
-    carries = content_answer f (own_outcome (received t) f r) (wide_in t f e) ∙ ap carried (damaged_outcome t f r e d);
+    carries =
+        let s = after_frame (received t) r f in
+        content_answer f (own_judgement (received t) f r.fields) s (wide_in t f e) ∙ ap (λ (j : Judgement). Some (carried j s)) (damaged_judgement t f r e d);
     error = error_above (received t);
   }
   error_law d None e = λ m. absurd (true≢false (sym m))
@@ -209,7 +243,7 @@ module _ (t : List Character) (r : Record) where
 pub flow_channel_laws : DeviceLaws flow_channel
 flow_channel_laws = record {
   served_nameplate = λ r t. nameplate_law t r (frame_in t) refl;
-  operated_nameplate = λ r u. written_nameplate (change_of u) r;
+  operated_nameplate = λ r u. written_nameplate (edit_for u) r;
   served_grant = λ r t. grant_law t r (frame_in t) refl;
   denied_grant = λ r t _. denied_law t r (frame_in t) refl;
   operated_grant = operated_grant_of;

@@ -8,13 +8,13 @@ use Rattle.std.proofs.lemmas.List.{map-set, set-get_or, drop-map}
 use Rattle.std.proofs.lemmas.Bool.{cases_eq, cases_Bool, ne_eqb, and_parts, eqb-true, leb-true}
 use Rattle.frame.specs.Check.{check_of}
 use Rattle.frame.specs.Frames.{Parts, RequestFrame, request_frame}
-use Rattle.frame.specs.Transmissions.{preambles_of, span_of}
+use Rattle.frame.specs.Transmissions.{preambles_of, span_of, parts_with}
 use Rattle.frame.proofs.Frames.{read_request_lem, framed_start}
-use Rattle.frame.proofs.Transmissions.{led, parts_with, span_sent, sent_request}
-use Rattle.line.specs.Characters.{Character, received}
-use Rattle.line.specs.Whole.{sound?}
+use Rattle.frame.proofs.Transmissions.{led, span_sent}
+use Rattle.line.specs.Characters.{Character, bytes_in, received}
+use Rattle.line.specs.Whole.{sound?, Sound}
 use Rattle.runs.specs.Channel.{frame_in}
-use Rattle.runs.specs.Damage.{bytes_in, Sound, Damaged}
+use Rattle.runs.specs.Damage.{Damaged}
 
 undo : (a b : ℕ) → bit_xor a (bit_xor a b) ≡ b
 undo a b = rw (← xor_assoc, xor_self, xor_zero_l)
@@ -85,7 +85,7 @@ begins span f (inr h) = inr (framed_start 130 5 span f h)
 good : (t : List Character) → Sound t → Good (span_of (bytes_in t))
 good t h =
     let s = h.transmits in
-    let e = span_sent 2 130 refl refl h.request (bytes_in t) (sent_request h.request (bytes_in t) s) in
+    let e = span_sent 2 130 refl refl h.request (bytes_in t) s in
     rw e (begins s.span (parts_with h.request s.check) s.framed, s.sound)
 
 -- what holds of each element past n holds of one that was put there

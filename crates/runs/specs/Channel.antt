@@ -1,6 +1,6 @@
 -- A gas flow channel as a device: what the laws over runs are proved of.
-use Rattle.std.specs.Prelude.{ℕ, Bool, false, cond, ◌&&◌, List, [], length, is_ok, Some, None, Option, ◌==◌, nat_le, slice_index}
-use Rattle.std.specs.Result.{result_err}
+use Rattle.std.specs.Prelude.{ℕ, Bool, false, if◌then◌else◌, ◌&&◌, List, [], is_ok, Some, None, Option, ◌==◌, nat_le, slice_index}
+use Rattle.std.specs.Option.{option_map_or}
 use Rattle.frame.specs.Frames.{Parts}
 use Rattle.setpoint.specs.Load.{load_of}
 use Rattle.setpoint.specs.Refusals.{admitted_under}
@@ -9,15 +9,21 @@ use Rattle.setpoint.specs.Value.{value_of}
 use Rattle.record.specs.Bytes.{number32}
 use Rattle.record.specs.declared.Record.{Record}
 use Rattle.record.specs.declared.readings.Reading.{Reading}
-use Rattle.rack.specs.Changes.{written, stored_pattern, record_after}
-use Rattle.rack.specs.declared.changes.Change.{Change}
-use Rattle.rack.specs.declared.changes.Change.TheVariants.{Sample, Key}
-use Rattle.line.specs.Addressing.{address_means, means}
-use Rattle.line.specs.Answers.{refused, own_outcome, answer_bytes, status_of}
+use Rattle.rack.specs.Changes.{refused_by, written, stored_pattern, record_after}
+use Rattle.rack.specs.Edits as edits
+use Rattle.line.specs.Addressing.{address_means?, means?}
+use Rattle.line.specs.Answers.{status_of}
 use Rattle.line.specs.Characters.{Character, Reception, received}
 use Rattle.line.specs.Codes as codes
-use Rattle.line.specs.Codes.{percent?}
+use Rattle.line.specs.Codes.{code_number, known?, percent?, asked_share}
+use Rattle.line.specs.Commands.{command_of, counted?}
+use Rattle.line.specs.Judgements.{Judgement, refused, own_judgement, changed_by, answer_bytes}
+use Rattle.line.specs.Marks.{all_marks}
 use Rattle.line.specs.Whole.{frame_of, sound?}
+use Rattle.line.specs.declared.codes.ResponseCode.{ResponseCode}
+use Rattle.line.specs.declared.codes.ResponseCode.TheVariants.{Success, AccessRestricted}
+use Rattle.line.specs.declared.commands.Command.{Command}
+use Rattle.line.specs.declared.commands.Command.TheVariants.{WritePollingAddress, WriteSetpoint}
 use Rattle.runs.specs.Damage.{Damaged, CommunicationError}
 use Rattle.runs.specs.Devices.{Device}
 
@@ -26,9 +32,10 @@ pub data Operation : Type 0 where
   sample : Reading → Operation
   key : Bool → Operation
 
-abbrev pub change_of : Operation → Change
-change_of (sample reading) = Sample reading
-change_of (key open?) = Key open?
+-- the write that it is
+abbrev pub edit_for : Operation → edits.Edit
+edit_for (sample reading) = edits.sample reading
+edit_for (key open?) = edits.key open?
 
 -- The nameplate of a channel, a term of this project: what stays as at set-up.
 pub record Nameplate : Type 0 where
@@ -58,73 +65,77 @@ granted_in r = record {
   key_open = r.fields.key_open;
 }
 
--- command 236 with code 0 grants its setpoint, minus zero as zero; command 6 with code 0 the polling address
-abbrev pub after_command : ℕ → List ℕ → Granted → Granted
-after_command command bytes g =
-    cond (command == 236) (record { setpoint = stored_pattern (number32 bytes 1); polling_address = g.polling_address; key_open = g.key_open })
-    (cond (command == 6) (record { setpoint = g.setpoint; polling_address = slice_index bytes 0; key_open = g.key_open }) g)
+-- The pattern of the setpoint stands behind its unit code in the data of a command.
+abbrev pub pattern_in : List ℕ → ℕ
+pattern_in bytes = number32 bytes 1
 
-abbrev pub after_reply : Option Parts → Granted → List ℕ → Granted
-after_reply (Some f) g answer = cond (status_of answer == 0) (after_command f.command f.«data» g) g
-after_reply None g answer = g
+-- An accepted setpoint command grants its setpoint, minus zero as zero, and an accepted polling address is granted. Nothing else is.
+abbrev pub after_command : List ℕ → Granted → Command → Granted
+after_command bytes grant WriteSetpoint = record grant { setpoint = stored_pattern (pattern_in bytes) }
+after_command bytes grant WritePollingAddress = record grant { polling_address = slice_index bytes 0 }
+after_command bytes grant command = grant
+
+-- whether an answer tells a code
+abbrev pub tells? : ResponseCode → List ℕ → Bool
+tells? code answer = option_map_or (λ status. status == code_number code) (status_of answer) false
+
+-- after an answer to a frame: only an answer of code 0 grants
+abbrev pub after_reply : Parts → Granted → List ℕ → Granted
+after_reply f grant answer =
+    if tells? Success answer
+    then option_map_or (after_command f.«data» grant) (command_of f.command) grant
+    else grant
 
 -- a key turn that is taken opens or shuts
 abbrev pub after_operation : Granted → Operation → Option ℕ → Granted
-after_operation g (sample reading) refusal = g
-after_operation g (key open?) (Some n) = g
-after_operation g (key open?) None = record { setpoint = g.setpoint; polling_address = g.polling_address; key_open = open? }
+after_operation grant (sample reading) refusal = grant
+after_operation grant (key open?) (Some n) = grant
+after_operation grant (key open?) None = record grant { key_open = open? }
 
 -- the share of a granted setpoint: its load times the full scale
 abbrev pub share_of_grant : Nameplate → Granted → ℕ
-share_of_grant p g = share_of (load_of (value_of g.setpoint)) p.full_scale
+share_of_grant p grant = share_of (load_of (value_of grant.setpoint)) p.full_scale
 
--- of a frame, if the transmission is whole: whether it means a channel
-abbrev pub means_frame : Option Parts → Record → Bool
-means_frame (Some f) r = means f r
-means_frame None r = false
+-- whether a frame is a setpoint command
+abbrev pub setpoint? : Parts → Bool
+setpoint? f = known? codes.setpoint? (command_of f.command)
 
--- whether it is a sound setpoint command past every refusal of the channel's own
-abbrev pub asks_frame : Option Parts → Reception → Record → Bool
-asks_frame (Some f) x r = sound? x && codes.asks? f.command f.«data» r
-asks_frame None x r = false
+-- whether it is, as received, a sound one past every refusal of the channel's own
+abbrev pub asks? : Reception → Record → Parts → Bool
+asks? x r f = sound? x && codes.asks? (command_of f.command) f.«data» r.fields
 
--- the record and the answer where the header does not object, and the answer where it does: code 16
-abbrev pub served_frame : Option Parts → Reception → Record → Record
-served_frame (Some f) x r = (own_outcome x f r).after
-served_frame None x r = r
+-- the same by nameplate and history: sound, of its count, the key open, the unit code of percent in front, and a setpoint that the
+-- ceiling admits
+abbrev pub asks_by? : Reception → Nameplate → Granted → Parts → Bool
+asks_by? x p grant f =
+    sound? x && (setpoint? f && (counted? WriteSetpoint f.«data» && (grant.key_open && (percent? f.«data»
+    && is_ok (admitted_under p.ceiling (value_of (pattern_in f.«data»)))))))
 
-abbrev pub answer_frame : Option Parts → Reception → Record → List ℕ
-answer_frame (Some f) x r = answer_bytes f (own_outcome x f r)
-answer_frame None x r = []
+-- whom a setpoint command means, by nameplate and granted polling address
+abbrev pub means_by? : Nameplate → Granted → Parts → Bool
+means_by? p grant f = address_means? f.address grant.polling_address p.device_type p.identification
 
-abbrev pub denial_frame : Option Parts → Record → List ℕ
-denial_frame (Some f) r = answer_bytes f (refused 16 r)
-denial_frame None r = []
+-- the judgement of a frame that means a channel, where the header does not object
+abbrev pub judged : Reception → Record → Parts → Judgement
+judged x r f = own_judgement x f r.fields
 
--- whether it is a setpoint command, and the share that it asks for
-abbrev pub setpoint_frame? : Option Parts → Bool
-setpoint_frame? (Some f) = f.command == 236
-setpoint_frame? None = false
+-- the channel's record after it, and its answer
+abbrev pub after_frame : Reception → Record → Parts → Record
+after_frame x r f = changed_by (judged x r f) r
 
-abbrev pub asked_frame : Option Parts → Nameplate → ℕ
-asked_frame (Some f) p = share_of (load_of (value_of (number32 f.«data» 1))) p.full_scale
-asked_frame None p = 0
+abbrev pub reply_to : Reception → Record → Parts → List ℕ
+reply_to x r f = answer_bytes f (judged x r f) (after_frame x r f)
 
--- whom a setpoint command means, by nameplates and granted polling addresses
-abbrev pub means_by : Option Parts → Nameplate → Granted → Bool
-means_by (Some f) p g = address_means f.address g.polling_address p.device_type p.identification
-means_by None p g = false
-
--- a setpoint command past every refusal but the header's, by nameplate and history: sound, count 5, key open, 39 hexadecimal
--- in front, and a setpoint that the ceiling admits
-abbrev pub asks_by : Option Parts → Reception → Nameplate → Granted → Bool
-asks_by (Some f) x p g =
-    sound? x && (f.command == 236
-    && (length f.«data» == 5 && g.key_open && percent? f.«data» && is_ok (admitted_under p.ceiling (value_of (number32 f.«data» 1)))))
-asks_by None x p g = false
+-- its answer where the header objects, and the record stays
+abbrev pub denial_to : Record → Parts → List ℕ
+denial_to r f = answer_bytes f (refused AccessRestricted) r
 
 abbrev pub frame_in : List Character → Option Parts
-frame_in t = frame_of (received t)
+frame_in characters = frame_of (received characters)
+
+-- what is made of the frame of a transmission, and otherwise of one that is not whole
+abbrev pub framed : {X : Type 0} → List Character → X → (Parts → X) → X
+framed characters otherwise make = option_map_or make (frame_in characters) otherwise
 
 abbrev pub flow_channel : Device
 flow_channel = record {
@@ -134,24 +145,24 @@ flow_channel = record {
   Answer = List ℕ;
   Nameplate = Nameplate;
   Grant = Granted;
-  acceptable? = λ c. nat_le c.marks 7;
-  meant? = λ r t. means_frame (frame_in t) r;
-  asks? = λ r t. asks_frame (frame_in t) (received t) r;
-  served = λ r t. served_frame (frame_in t) (received t) r;
-  reply = λ r t. answer_frame (frame_in t) (received t) r;
-  denial = λ r t. denial_frame (frame_in t) r;
-  denial? = λ a. (status_of a == 16);
-  operated = λ r u. record_after (written (change_of u) r) r;
-  refusal = λ r u. result_err (written (change_of u) r);
+  acceptable? = λ c. nat_le c.marks all_marks;
+  meant? = λ r pending. framed pending false (λ f. means? f r);
+  asks? = λ r pending. framed pending false (asks? (received pending) r);
+  served = λ r pending. framed pending r (after_frame (received pending) r);
+  reply = λ r pending. framed pending [] (reply_to (received pending) r);
+  denial = λ r pending. framed pending [] (denial_to r);
+  denial? = tells? AccessRestricted;
+  operated = λ r operation. record_after (written (edit_for operation) r) r;
+  refusal = λ r operation. refused_by (edit_for operation) r.fields;
   nameplate = nameplate;
   grant = granted_in;
-  after_answer = λ g t a. after_reply (frame_in t) g a;
+  after_answer = λ grant pending answer. framed pending grant (λ f. after_reply f grant answer);
   after_operation = after_operation;
   share = share_of_grant;
-  asked = λ p t. asked_frame (frame_in t) p;
-  setpoint? = λ t. setpoint_frame? (frame_in t);
-  meant_by? = λ p g t. means_by (frame_in t) p g;
-  asks_by? = λ p g t. asks_by (frame_in t) (received t) p g;
+  asked = λ p pending. framed pending 0 (λ f. asked_share f.«data» p.full_scale);
+  setpoint? = λ pending. framed pending false setpoint?;
+  meant_by? = λ p grant pending. framed pending false (means_by? p grant);
+  asks_by? = λ p grant pending. framed pending false (asks_by? (received pending) p grant);
   Damaged = Damaged;
   CommunicationError = CommunicationError;
 }
