@@ -1,11 +1,18 @@
 -- Packed text: four letters of six bits in three bytes.
-use Rattle.std.specs.Prelude.{◌≡◌, ℕ, ◌+◌, ◌-◌, ◌*◌, ◌/◌, ◌%◌, Bool, true, ◌&&◌, List, [], ◌∷◌, length, ◌==◌, nat_le, slice_index}
+use Rattle.std.specs.Prelude.{◌≡◌, ℕ, ◌+◌, ◌-◌, ◌*◌, ◌/◌, ◌%◌, Bool, true, ◌&&◌, List, [], ◌∷◌, length, ◌==◌, nat_le, slice_index, Result}
 use Rattle.std.specs.List.{list_all}
-use Rattle.text.specs.Groups.{grouped}
+use Rattle.refusals.specs.Filling.{Fills}
+use Rattle.text.specs.Groups.{in_groups}
 
--- a letter that packed text can hold: 20 to 5F hexadecimal
+-- the letters that packed text can hold
+abbrev pub first_letter : ℕ
+first_letter = 0x20
+
+abbrev pub last_letter : ℕ
+last_letter = 0x5f
+
 abbrev pub letter? : ℕ → Bool
-letter? l = nat_le 0x20 l && nat_le l 0x5f
+letter? l = nat_le first_letter l && nat_le l last_letter
 
 abbrev pub letters? : List ℕ → Bool
 letters? = list_all letter?
@@ -28,7 +35,9 @@ letter_of v = v + 64 * (1 - v / 32)
 
 -- the 24 bits of four letters, the first letter highest
 abbrev pub bits_of_letters : List ℕ → ℕ
-bits_of_letters t = ((six_bits (slice_index t 0) * 64 + six_bits (slice_index t 1)) * 64 + six_bits (slice_index t 2)) * 64 + six_bits (slice_index t 3)
+bits_of_letters t =
+    ((six_bits (slice_index t 0) * 64 + six_bits (slice_index t 1)) * 64 + six_bits (slice_index t 2)) * 64
+    + six_bits (slice_index t 3)
 
 -- the 24 bits of three bytes, the first byte highest
 abbrev pub bits_of_bytes : List ℕ → ℕ
@@ -38,15 +47,23 @@ abbrev pub three_bytes : ℕ → List ℕ
 three_bytes g = g / 65536 ∷ g / 256 % 256 ∷ g % 256 ∷ []
 
 abbrev pub four_letters : ℕ → List ℕ
-four_letters g = letter_of (g / 262144) ∷ letter_of (g / 4096 % 64) ∷ letter_of (g / 64 % 64) ∷ letter_of (g % 64) ∷ []
+four_letters g =
+    letter_of (g / 262144) ∷ letter_of (g / 4096 % 64) ∷ letter_of (g / 64 % 64) ∷ letter_of (g % 64) ∷ []
 
 -- a text packed: three bytes for each four letters
 abbrev pub packed : List ℕ → List ℕ
-packed t = grouped (length t / 4) 4 (λ g. three_bytes (bits_of_letters g)) t
+packed t = in_groups 4 (λ g. three_bytes (bits_of_letters g)) t
 
 -- packed bytes read as text: four letters for each three bytes
 abbrev pub unpacked : List ℕ → List ℕ
-unpacked p = grouped (length p / 3) 3 (λ g. four_letters (bits_of_bytes g)) p
+unpacked p = in_groups 3 (λ g. four_letters (bits_of_bytes g)) p
+
+-- calls that pack a text, or unpack bytes, into the front of a lent buffer
+abbrev pub Packs : List ℕ → List ℕ → Result ℕ ℕ → List ℕ → Type 0
+Packs text before answer after = Fills (text? text) (packed text) before answer after
+
+abbrev pub Unpacks : List ℕ → List ℕ → Result ℕ ℕ → List ℕ → Type 0
+Unpacks bytes before answer after = Fills (packed? bytes) (unpacked bytes) before answer after
 
 -- these packed bytes read back to the text
 pub record ReadsBack (text bytes : List ℕ) : Type 0 where

@@ -1,18 +1,18 @@
 //! Packed text: four letters, 20 to 5F hexadecimal, in three bytes, six bits each, the first letter highest.
 #![tactic(auto)]
 
-ghost use Rattle.std.specs.Prelude.{◌≡◌, ℕ, ◌/◌, ◌^◌, ◌<◌, true, List, length, take, IfOk, refl};
+ghost use Rattle.std.specs.Prelude.{◌≡◌, ◌^◌, ◌<◌, true, List, ℕ, length, take, IfOk, refl};
 ghost use Rattle.refusals.specs.Refusals.{numbered};
 ghost use Rattle.refusals.specs.Filling.{Fills};
-ghost use Rattle.text.specs.Groups.{grouped};
-ghost use Rattle.text.specs.Text.{six_bits, letter_of, letters?, text?, packed?, packed, unpacked, bits_of_letters, bits_of_bytes, three_bytes, four_letters, ReadsBack, PacksAgain};
+ghost use Rattle.text.specs.Groups.{in_groups};
+ghost use Rattle.text.specs.Text.{six_bits, letter_of, letters?, bits_of_letters, bits_of_bytes, three_bytes, four_letters, Packs, Unpacks, ReadsBack, PacksAgain};
 
 use refusals::Refusal;
 
 /// Packs `text` into the front of `out` and answers how many bytes it wrote: 110 unless the text is letters in groups of
 /// four, then 102 where `out` is too short.
 pub fn pack(text: &[u8], out: &mut [u8]) -> Result<usize, Refusal>
-    ensures fills { Fills (text? text.now) (packed text.now) out.old (numbered result) out.new }
+    ensures fills { Packs text.now out.old (numbered result) out.new }
     ensures back { IfOk result (λ n. ReadsBack text.now (take n out.new)) }
 {
     if text.len() % 4 != 0 || !all_letters(text) {
@@ -24,7 +24,7 @@ pub fn pack(text: &[u8], out: &mut [u8]) -> Result<usize, Refusal>
 /// Unpacks `packed` into the front of `out` and answers how many letters it wrote: 110 unless the bytes come in groups of
 /// three, then 102 where `out` is too short.
 pub fn unpack(packed: &[u8], out: &mut [u8]) -> Result<usize, Refusal>
-    ensures fills { Fills (packed? packed.now) (unpacked packed.now) out.old (numbered result) out.new }
+    ensures fills { Unpacks packed.now out.old (numbered result) out.new }
     ensures back { IfOk result (λ n. PacksAgain packed.now (take n out.new)) }
 {
     if packed.len() % 3 != 0 {
@@ -55,7 +55,7 @@ fn regroup<const N: usize, const M: usize, C: Code<N, M>>(
 ) -> Result<usize, Refusal>
     requires sizes { (0 < N) × (0 < M) }
     requires small { (N < 2 ^ 8) × (M < 2 ^ 8) }
-    ensures { Fills true (grouped (length from.now / N) N C.coded from.now) out.old (numbered result) out.new }
+    ensures { Fills true (in_groups N C.coded from.now) out.old (numbered result) out.new }
 {
     let (groups, _) = from.as_chunks::<N>();
     if out.len() / M < groups.len() {
