@@ -12,7 +12,7 @@ use line::{Header, Received, Request};
 use record::{RECORD_LENGTH, Record};
 use refusals::Refusal;
 use std::alloc::Global;
-use words::{UNTOUCHED, from_bytes, to_bytes};
+use tables::{UNTOUCHED, from_bytes, to_bytes};
 
 fn main(rt: HostRuntime) -> anyhow::Result<()> {
     run(&rt)

@@ -6,8 +6,8 @@ use Rattle.record.specs.declared.Record.{Record}
 use Rattle.rack.specs.Files.{file_answer, file_records}
 use Rattle.rack.specs.declared.changes.Change.{Change}
 use Rattle.rack.specs.declared.changes.Change.TheVariants.{PollingAddress, Preambles, AssemblyNumber, Changed, Key, Sample, Text, Setpoint}
-use Rattle.words.specs.Words.{pattern_at}
-use Rattle.words.specs.declared.WordFault.{WordFault}
+use Rattle.tables.specs.Words.{pattern_at}
+use Rattle.tables.specs.declared.words.WordFault.{WordFault}
 
 -- a word is a decimal number
 abbrev pub Decimal : List ℕ → ℕ → Type 0

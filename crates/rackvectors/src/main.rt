@@ -7,7 +7,7 @@
 #![tactic(auto)]
 
 ghost use Rattle.std.specs.Prelude.{IfOk};
-ghost use Rattle.words.specs.Words.{pattern_at};
+ghost use Rattle.tables.specs.Words.{pattern_at};
 ghost use Rattle.rackvectors.specs.Rows.{Tells, Samples, Holds};
 
 use anyhow::{Context, anyhow};
@@ -15,8 +15,7 @@ use combined::Ceiling;
 use rack::{Change, Rack, RackRefusal};
 use record::{Reading, value_of};
 use single::Single;
-use tables::bytes_of;
-use words::{from_bytes, to_pattern};
+use tables::{bytes_of, from_bytes, to_pattern};
 
 fn main(rt: HostRuntime) -> anyhow::Result<()> {
     run(&rt)

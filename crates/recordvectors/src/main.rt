@@ -10,8 +10,7 @@ use anyhow::{Context, anyhow};
 use rack::Rack;
 use shelf::Shelf;
 use single::Single;
-use tables::{Byte, Checked, Filled};
-use words::to_bytes;
+use tables::{Byte, Checked, Filled, to_bytes};
 
 fn main(rt: HostRuntime) -> anyhow::Result<()> {
     run(&rt)

@@ -10,7 +10,7 @@ use anyhow::anyhow;
 use recording::Format;
 use setup::MAX_SUPPLY;
 use std::str;
-use words::to_bytes;
+use tables::to_bytes;
 
 fn main(rt: HostRuntime) -> anyhow::Result<()> {
     run(&rt)

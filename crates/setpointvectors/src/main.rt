@@ -8,8 +8,7 @@
 
 use anyhow::anyhow;
 use setpoint::{admitted, classify, in_units, lawful, share};
-use tables::{Admitted, Classified, Units, YesNo};
-use words::to_pattern;
+use tables::{Admitted, Classified, Units, YesNo, to_pattern};
 
 fn main(rt: HostRuntime) -> anyhow::Result<()> {
     run(&rt)

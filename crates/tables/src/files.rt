@@ -1,4 +1,5 @@
-// Answers to records, record files and questions for text bytes.
+//! Answers to records, record files and questions for text bytes.
+
 ghost use Rattle.std.specs.Prelude.{◌≡◌, ℕ, Some, if◌then◌else◌, is_ok};
 ghost use Rattle.rack.specs.Files.{file_answer, file_records};
 ghost use Rattle.tables.specs.Files.{checked_text, filled_text, byte_text, check_of, filled_by};
@@ -11,12 +12,12 @@ use shelf::Shelf;
 use single::Single;
 use std::fmt;
 
-// The first field of a record that is out of range, if any.
+/// The first field of a record that is out of range, if any.
 #[derive(Clone, Copy)]
 pub struct Checked(pub Option<RecordFault>);
 
 impl Checked {
-    // Decodes the bytes of a record, if they are as many as a record has.
+    /// Decodes the bytes of a record, if they are as many as a record has.
     pub fn of(bytes: &[u8]) -> Option<Checked>
         ensures { result ≡ check_of bytes.now }
     {
@@ -39,12 +40,12 @@ impl fmt::Display for Checked {
     }
 }
 
-// How many records a rack has after a file, or why the file is refused.
+/// How many records a rack has after a file, or why the file is refused.
 #[derive(Clone, Copy)]
 pub struct Filled(pub Result<u8, FileFault>);
 
 impl Filled {
-    // Fills a rack by a file.
+    /// Fills a rack by a file.
     pub fn by<R: Filling>(rack: &mut R, file: &[u8]) -> Filled
         ensures answer { result.0 ≡ filled_by (file_answer R.most file.now) (file_records file.now) }
         ensures after { R.records rack.new ≡ (if is_ok result.0 then file_records file.now else R.records rack.old) }
@@ -72,7 +73,7 @@ impl fmt::Display for Filled {
     }
 }
 
-// One text byte of a channel, or the number of the refusal.
+/// One text byte of a channel, or the number of the refusal.
 #[derive(Clone, Copy)]
 pub struct Byte(pub Result<u8, RackRefusal>);
 
@@ -87,7 +88,7 @@ impl fmt::Display for Byte {
     }
 }
 
-// A rack that a record file fills.
+/// A rack that a record file fills.
 pub trait Filling: Rack {
     // The most records that it has room for.
     ghost most: { ℕ };

@@ -1,4 +1,5 @@
-// Answers to questions about setpoints.
+//! Answers to questions about setpoints.
+
 ghost use Rattle.std.specs.Prelude.{Some};
 ghost use Rattle.tables.specs.Setpoints.{classified_text, admitted_text, yes_no_text, units_text};
 
@@ -6,7 +7,7 @@ use hexdigits::Hex;
 use setpoint::{Setpoint, SetpointRefusal};
 use std::fmt;
 
-// What a pattern is as a setpoint.
+/// What a pattern is as a setpoint.
 #[derive(Clone, Copy)]
 pub struct Classified(pub Setpoint);
 
@@ -24,7 +25,7 @@ impl fmt::Display for Classified {
     }
 }
 
-// The load of a setpoint under a ceiling, or the code of its refusal.
+/// The load of a setpoint under a ceiling, or the code of its refusal.
 #[derive(Clone, Copy)]
 pub struct Admitted(pub Result<u32, SetpointRefusal>);
 
@@ -39,6 +40,7 @@ impl fmt::Display for Admitted {
     }
 }
 
+/// An answer of two, printed as a word.
 #[derive(Clone, Copy)]
 pub struct YesNo(pub bool);
 
@@ -50,7 +52,7 @@ impl fmt::Display for YesNo {
     }
 }
 
-// The pattern of a setpoint in the units of a full scale, where there is one.
+/// The pattern of a setpoint in the units of a full scale, where there is one.
 #[derive(Clone, Copy)]
 pub struct Units(pub Option<u32>);
 

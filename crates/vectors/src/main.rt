@@ -9,11 +9,9 @@
 #![tactic(auto)]
 
 use anyhow::anyhow;
-use digits::{MasterName, Width};
-use frame::{Address, Transmission};
+use frame::{RequestParts, Transmission};
 use refusals::Refusal;
-use tables::bytes_of;
-use words::{UNTOUCHED, from_bytes};
+use tables::{MasterName, UNTOUCHED, Width, bytes_of, from_bytes};
 
 fn main(rt: HostRuntime) -> anyhow::Result<()> {
     run(&rt)
@@ -59,9 +57,9 @@ fn make(rt: &HostRuntime, parts: &[&str], length: &str) -> anyhow::Result<()> {
     };
     let address = bytes_of(rt.alloc(), address)?;
     let data = bytes_of(rt.alloc(), data)?;
-    let request = Transmission {
+    let request = RequestParts {
         preambles: preambles.parse()?,
-        address: Address::from(address.as_slice()),
+        address: address.as_slice(),
         command: command.parse()?,
         data: data.as_slice(),
     };

@@ -1,5 +1,5 @@
 use anyhow::Context;
-use digits::Letters;
+use tables::Letters;
 use rack::Rack;
 use record::{Fields, Record, value_of};
 use shelf::{Shelf, rack_file};

@@ -2,7 +2,7 @@ use crate::PREAMBLES;
 use crate::channels::SUPPLY;
 use crate::parts::{Part, show_parts};
 use anyhow::Context;
-use digits::Hex;
+use tables::SpacedHex;
 use frame::{Address, Transmission};
 use line::MAX_ANSWER;
 use master::{flow_pattern, long_address};
@@ -134,7 +134,7 @@ fn send_damaged<R: Rack>(rt: &HostRuntime, panel: &mut Panel<R>) -> anyhow::Resu
         *check ^= 0x01;
     }
     let mut line = [0; MAX_ANSWER];
-    println!(rt; "     {}", Hex(damaged))?;
+    println!(rt; "     {}", SpacedHex(damaged))?;
     hear(rt, panel, damaged, &DENIAL, &mut line)?;
     Ok(())
 }
@@ -184,7 +184,7 @@ fn ask<R: Rack>(
     let mut sent = [0; MAX_ANSWER];
     let len = frame::make_request(question, &mut sent)?;
     let sent = sent.get(0..len).context("a request without bytes")?;
-    println!(rt; "     {}", Hex(sent))?;
+    println!(rt; "     {}", SpacedHex(sent))?;
     hear(rt, panel, sent, parts, line)
 }
 

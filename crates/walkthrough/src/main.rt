@@ -7,7 +7,7 @@ mod exchanges;
 mod parts;
 
 use anyhow::Context;
-use digits::{Hex, Letters, MasterName, Width};
+use tables::{Letters, MasterName, SpacedHex, Width};
 use frame::{Address, Transmission};
 use parts::{Part, show_parts};
 use std::io;
@@ -74,7 +74,7 @@ fn make_question(rt: &HostRuntime, line: &mut [u8]) -> anyhow::Result<usize> {
 
 fn show_tag(rt: &HostRuntime, packed: &[u8]) -> io::Result<()> {
     println!(rt; "\n1. The tag as packed text, four letters in three bytes:")?;
-    println!(rt; "     {}", Hex(packed))
+    println!(rt; "     {}", SpacedHex(packed))
 }
 
 fn show_question(rt: &HostRuntime, sent: &[u8]) -> io::Result<()> {
@@ -88,11 +88,11 @@ fn show_transmission(rt: &HostRuntime, heard: Transmission<'_>) -> io::Result<()
     println!(rt;
         "     {} address {} of the {} master",
         Width(heard.address),
-        Hex(heard.address.bytes()),
+        SpacedHex(heard.address.bytes()),
         MasterName(heard.address.master())
     )?;
     println!(rt; "     command {}", heard.command)?;
-    println!(rt; "     {} data bytes: {}", heard.data.len(), Hex(heard.data))
+    println!(rt; "     {} data bytes: {}", heard.data.len(), SpacedHex(heard.data))
 }
 
 fn show_letters(rt: &HostRuntime, letters: &[u8]) -> io::Result<()> {

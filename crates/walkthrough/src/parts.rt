@@ -1,4 +1,4 @@
-use digits::Hex;
+use tables::SpacedHex;
 use std::io;
 
 // How many bytes a part of a transmission has, and what it is.
@@ -12,7 +12,7 @@ pub(crate) fn show_parts(rt: &HostRuntime, bytes: &[u8], parts: &[Part]) -> io::
         let Some((part, after)) = rest.split_at_checked(*length) else {
             return Ok(());
         };
-        println!(rt; "     {}   {meaning}", Hex(part))?;
+        println!(rt; "     {}   {meaning}", SpacedHex(part))?;
         rest = after;
     }
     Ok(())
