@@ -1,7 +1,8 @@
 -- Lists by place.
 use Rattle.std.proofs.Common.{◌≡◌, ℕ, zero, suc, Bool, true, false, cond, not, eqb, ◌↔◌, List, [], ◌∷◌, map, set, Some, None, Option, sym, refl, ap, ◌∙◌, subst, arith, slice_get}
 use Rattle.std.proofs.lemmas.Bool.{eqb-true, eqb-false, both_ways, not-true, and_parts}
-use Rattle.runs.specs.Places.{At, here, there, OnlyAt, nowhere?, next_place, only_place}
+use Rattle.std.specs.Option.{option_map}
+use Rattle.runs.specs.Places.{At, here, there, OnlyAt, nowhere?, only_place}
 
 -- a test that cannot pass
 untrue : (b : Bool) → (b ≡ true → ⊥) → b ≡ false
@@ -69,7 +70,7 @@ module _ {X : Type 0} where
         rw (o.holds x here, nowhere xs (λ j y a e. let z : suc j ≡ 0 = o.alone (suc j) y (there a) e in omega arith))
     only_place_lem (there {y = y} {place = place} a) o =
         rw (untrue (test y) (λ e. let z : 0 ≡ suc place = o.alone 0 y here e in omega arith))
-        (ap next_place (only_place_lem a (record {
+        (ap (option_map suc) (only_place_lem a (record {
           holds = λ x b. o.holds x (there b);
           alone = λ j x b e. let z : suc j ≡ suc place = o.alone (suc j) x (there b) e in omega arith;
         })))
@@ -100,7 +101,7 @@ module _ {X : Type 0} where
     place_only (x ∷ xs) place e = go (test x) refl (nowhere? test xs) refl (only_place test xs) refl e (place_only xs)
       where
         go : (b : Bool) → test x ≡ b → (c : Bool) → nowhere? test xs ≡ c → (o : Option ℕ) → only_place test xs ≡ o
-            → cond b (cond c (Some 0) None) (next_place o) ≡ Some place → ((j : ℕ) → only_place test xs ≡ Some j → Found xs j) → Found (x ∷ xs) place
+            → cond b (cond c (Some 0) None) (option_map suc o) ≡ Some place → ((j : ℕ) → only_place test xs ≡ Some j → Found xs j) → Found (x ∷ xs) place
         go true p true q o w e more = subst (Found (x ∷ xs)) (let i : ◌≡◌ {A = ℕ} 0 place = cc in i) (found_first x xs p q)
         go true p false q o w e more = absurd (none_some refl e)
         go false p c q (Some j) w e more = subst (Found (x ∷ xs)) (let i : suc j ≡ place = cc in i) (found_later x xs j p (more j w))

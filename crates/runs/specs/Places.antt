@@ -1,5 +1,7 @@
 -- Lists by place, counted from 0.
-use Rattle.std.specs.Prelude.{◌≡◌, ℕ, zero, suc, Bool, true, cond, not, ◌&&◌, List, [], ◌∷◌, Some, None, Option}
+use Rattle.std.specs.Prelude.{◌≡◌, ℕ, zero, suc, Bool, true, if◌then◌else◌, not, List, [], ◌∷◌, Some, None, Option}
+use Rattle.std.specs.List.{list_all}
+use Rattle.std.specs.Option.{option_map}
 
 -- the list has x at place k
 pub data At {X : Type 0} : List X → ℕ → X → Type 0 where
@@ -11,18 +13,15 @@ pub record OnlyAt {X : Type 0} (test : X → Bool) (xs : List X) (place : ℕ) :
   pub holds : (x : X) → At xs place x → test x ≡ true
   pub alone : (j : ℕ) (x : X) → At xs j x → test x ≡ true → j ≡ place
 
--- a place in a list, once the list has one more element in front
-abbrev pub next_place : Option ℕ → Option ℕ
-next_place (Some place) = Some (suc place)
-next_place None = None
-
 module _ {X : Type 0} where
   -- the test holds nowhere
   abbrev pub nowhere? : (X → Bool) → List X → Bool
-  nowhere? test [] = true
-  nowhere? test (x ∷ xs) = not (test x) && nowhere? test xs
+  nowhere? test xs = list_all (λ x. not (test x)) xs
 
   -- the one place where the test holds, if there is just one
   abbrev pub only_place : (X → Bool) → List X → Option ℕ
   only_place test [] = None
-  only_place test (x ∷ xs) = cond (test x) (cond (nowhere? test xs) (Some 0) None) (next_place (only_place test xs))
+  only_place test (x ∷ xs) =
+      if test x
+      then (if nowhere? test xs then Some 0 else None)
+      else option_map suc (only_place test xs)
