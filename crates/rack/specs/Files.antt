@@ -1,8 +1,10 @@
 -- Record files: records of 80 bytes, one after another.
-use Rattle.std.specs.Prelude.{ℕ, suc, ◌/◌, ◌%◌, if◌then◌else◌, ◌&&◌, List, [], ◌∷◌, ◌++◌, map, length, codes, decimal, Some, None, Ok, Err, Option, Result, ◌==◌, nat_le}
+use Rattle.std.specs.Prelude.{◌≡◌, ℕ, suc, ◌≤◌, ◌/◌, ◌%◌, if◌then◌else◌, ◌&&◌, List, [], ◌∷◌, ◌++◌, map, take, length, codes, decimal, Some, None, Ok, Err, Option, Result, ◌==◌, nat_le, slice_get}
+use Rattle.std.specs.List.{AllByRecursion}
 use Rattle.std.specs.Simd.{first_chunks}
 use Rattle.record.specs.Faults as faults
-use Rattle.record.specs.Faults.{fault_of}
+use Rattle.record.specs.Faults.{fault_of, FirstFault}
+use Rattle.record.specs.Lawful.{Lawful}
 use Rattle.record.specs.Layout.{decoded}
 use Rattle.record.specs.Numbers.{record_length}
 use Rattle.record.specs.declared.Record.{Record}
@@ -32,6 +34,11 @@ abbrev pub fault_in : ℕ → Option RecordFault → Option RecordError → Opti
 fault_in number (Some fault) rest = Some (record { number = number; fault = fault })
 fault_in number None rest = rest
 
+-- What an error says of a row: its number, and its first field out of range.
+pub record Names (number : ℕ) (row : List ℕ) (e : RecordError) : Type 0 where
+  pub numbers : e.number ≡ number
+  pub first : FirstFault row e.fault
+
 -- the first row with a field out of range, and that field
 abbrev pub first_bad : ℕ → List (List ℕ) → Option RecordError
 first_bad number [] = None
@@ -40,6 +47,30 @@ first_bad number (row ∷ rows) = fault_in number (fault_of row) (first_bad (suc
 abbrev pub or_fault : Option RecordError → Result (Unit {0}) FileFault
 or_fault (Some e) = Err (Bad e)
 or_fault None = Ok tt
+
+-- Which record of a file a fault names: the first that is not lawful, by its number, and its first field out of range. The
+-- records before it are lawful.
+pub record FirstBad (rows : List (List ℕ)) (e : RecordError) : Type 0 where
+  pub row : List ℕ
+  pub there : slice_get rows e.number ≡ Some row
+  pub field : FirstFault row e.fault
+  pub before : AllByRecursion Lawful (map decoded (take e.number rows))
+
+-- A file is of 1 to this many records.
+pub record OfRecords (most : ℕ) (file : List ℕ) : Type 0 where
+  pub whole : length file % record_length ≡ 0
+  pub some : 1 ≤ length file / record_length
+  pub few : length file / record_length ≤ most
+
+-- What a fault says of a file.
+abbrev pub Explains : ℕ → List ℕ → FileFault → Type 0
+Explains most file Count = OfRecords most file → ⊥
+Explains most file (Bad e) = OfRecords most file × FirstBad (rows_of file) e
+
+-- A file that is taken is of 1 to this many records, all of them lawful.
+pub record Taken (most : ℕ) (file : List ℕ) : Type 0 where
+  pub counted : OfRecords most file
+  pub lawful : AllByRecursion Lawful (map decoded (rows_of file))
 
 -- what a file of at most this many records answers: first its length counts, then its records
 abbrev pub file_answer : ℕ → List ℕ → Result (Unit {0}) FileFault

@@ -1,10 +1,10 @@
 //! What can be wrong with a record file.
-ghost use Rattle.std.specs.Prelude.{◌≡◌, Some, None, OnOk};
+ghost use Rattle.std.specs.Prelude.{◌≡◌, Some, None, IfErr, OnOk};
 ghost use Rattle.std.specs.Result.{result_err};
 ghost use Rattle.record.specs.Faults.{fault_of};
 ghost use Rattle.record.specs.Lawful.{Lawful};
 ghost use Rattle.record.specs.Layout.{decoded};
-ghost use Rattle.rack.specs.Files.{refusal_of, words_of, fault_in};
+ghost use Rattle.rack.specs.Files.{refusal_of, words_of, fault_in, Names};
 ghost use Rattle.rack.specs.declared.files.FileFault.TheVariants.{Record as Bad};
 
 use record::{RECORD_LENGTH, RecordFault};
@@ -68,7 +68,41 @@ impl From<RecordError> for FileFault {
 /// Whether a record of a file is lawful.
 pub fn check_record(number: usize, row: &[u8; RECORD_LENGTH]) -> Result<(), RecordError>
     ensures fault { result_err result ≡ fault_in number (fault_of row.now) None }
+    ensures names { IfErr result (Names number row.now) }
     ensures lawful { OnOk result (Lawful (decoded row.now)) }
 {
     record::check(row).map_err(|fault| RecordError { number, fault })
+}
+
+#[cfg(test)]
+mod tests {
+    use super::*;
+    use std::fmt::Write;
+
+    // A writer that takes one piece of text and fails at the next.
+    #[derive(Drop)]
+    struct Narrow {
+        pieces: u8,
+    }
+
+    impl fmt::Write for Narrow {
+        fn write_str(&mut self, _text: &str) -> fmt::Result {
+            if self.pieces > 0 {
+                return Err(fmt::Error);
+            }
+            self.pieces = 1;
+            Ok(())
+        }
+    }
+
+    #[test]
+    fn a_writer_that_fails(rt: HostRuntime) {
+        let mut narrow = Narrow { pieces: 0 };
+        let fault = FileFault::from(RecordError {
+            number: 3,
+            fault: RecordFault::Flags,
+        });
+        assert!(rt; write!(narrow, "{fault}").is_err());
+        assert_eq!(rt; narrow.pieces, 1);
+    }
 }

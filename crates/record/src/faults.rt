@@ -1,7 +1,7 @@
 //! What can be wrong with the bytes of a record.
-ghost use Rattle.std.specs.Prelude.{◌≡◌, Some};
+ghost use Rattle.std.specs.Prelude.{◌≡◌, Some, IfErr};
 ghost use Rattle.std.specs.Result.{result_err};
-ghost use Rattle.record.specs.Faults.{offset_of, words_of, offends?, fault_of};
+ghost use Rattle.record.specs.Faults.{offset_of, words_of, offends?, fault_of, FirstFault};
 
 use crate::bytes::{all_zero, u32_at};
 use crate::layout::*;
@@ -58,7 +58,8 @@ const FAULTS: [RecordFault; 9] = [
 
 /// Whether the bytes of a record are lawful; if not, by the first field that is out of range.
 pub fn check(bytes: &[u8; RECORD_LENGTH]) -> Result<(), RecordFault>
-    ensures { result_err result ≡ fault_of bytes.now }
+    ensures fault { result_err result ≡ fault_of bytes.now }
+    ensures first { IfErr result (FirstFault bytes.now) }
 {
     match fault_in(bytes) {
         Some(fault) => Err(fault),
