@@ -1,5 +1,5 @@
 -- Records of a list by their channels, and writes to them.
-use Rattle.std.proofs.Common.{◌≡◌, ℕ, zero, suc, Bool, true, false, cond, ◌&&◌, ltb, leb, List, [], ◌∷◌, set, Some, None, Ok, Err, Option, Result, ap, subst}
+use Rattle.std.proofs.Common.{◌≡◌, ℕ, zero, suc, Bool, true, false, cond, ◌&&◌, ltb, leb, List, [], ◌∷◌, set, Some, None, Ok, Err, Option, Result, sym, ap, subst, arith}
 use Rattle.std.specs.List.{AllByRecursion}
 use Rattle.std.proofs.lemmas.Option.{none-some, same_Some}
 use Rattle.record.specs.Lawful.{Lawful}
@@ -28,3 +28,11 @@ from_cond false o r e = cc
 -- the record of a channel is lawful
 pub channel_lawful : (records : List Record) (c : ℕ) (r : Record) → AllByRecursion Lawful records → channel_of records c ≡ Some r → Lawful r
 channel_lawful records c r h e = record_lawful records c r h (from_cond (ltb c (told records) && leb c 14) (record_at records c) r e)
+
+accepted_is : (w : Result Record ℕ) (r old : Record) → Ok tt ≡ answer_of w → r ≡ record_after w old → w ≡ Ok r
+accepted_is (Ok x) r old e k = ap Ok (sym k)
+accepted_is (Err m) r old e k = absurd (let z : ◌≡◌ {A = ℕ} 0 1 = cc in omega arith)
+
+-- what an accepted write makes of the channel's record
+pub written_is : (records : List Record) (channel : ℕ) (edit : Edit) (old r : Record) → channel_of records channel ≡ Some old → Ok tt ≡ answer_of (written edit old) → r ≡ record_after (written edit old) old → written_at records channel edit ≡ Ok r
+written_is records channel edit old r e a k = rw e (accepted_is (written edit old) r old a k)

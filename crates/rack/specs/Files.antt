@@ -1,5 +1,5 @@
 -- Record files: records of 80 bytes, one after another.
-use Rattle.std.specs.Prelude.{◌≡◌, ℕ, suc, ◌≤◌, ◌/◌, ◌%◌, if◌then◌else◌, ◌&&◌, List, [], ◌∷◌, ◌++◌, map, take, length, codes, decimal, Some, None, Ok, Err, Option, Result, ◌==◌, nat_le, slice_get}
+use Rattle.std.specs.Prelude.{◌≡◌, ℕ, Bool, suc, ◌≤◌, ◌/◌, ◌%◌, if◌then◌else◌, ◌&&◌, List, [], ◌∷◌, ◌++◌, map, take, length, codes, decimal, Some, None, Ok, Err, Option, Result, ◌==◌, nat_le, slice_get}
 use Rattle.std.specs.List.{AllByRecursion}
 use Rattle.std.specs.Simd.{first_chunks}
 use Rattle.record.specs.Faults as faults
@@ -82,3 +82,7 @@ file_answer most file =
 -- the records of a file
 abbrev pub file_records : List ℕ → List Record
 file_records file = map decoded (rows_of file)
+
+-- the records that are held after a file was taken or refused
+abbrev pub kept_or_read : Bool → List ℕ → List Record → List Record
+kept_or_read taken file held = if taken then file_records file else held

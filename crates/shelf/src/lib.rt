@@ -1,4 +1,4 @@
-// A shelf of records, and the record files that fill it.
+//! A shelf of records, and the record files that fill it.
 #![tactic(auto)]
 
 ghost use Rattle.std.specs.Prelude.{◌≡◌, codes};
@@ -9,7 +9,7 @@ mod shelf_rack;
 
 pub use shelf::Shelf;
 
-// The record file of a program that has a shelf, in the folder that it is run in.
+/// The record file of a program that has a shelf, in the folder that it is run in.
 pub fn rack_file() -> &'static str
     ensures { result.now ≡ codes "rack.rec" }
 {

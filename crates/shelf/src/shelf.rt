@@ -1,3 +1,4 @@
+//! A shelf.
 ghost use Rattle.std.specs.Prelude.{◌<◌};
 ghost use Rattle.std.specs.List.{AllByRecursion, AllByRecursion-prop};
 ghost use Rattle.std.proofs.Props.{props};
@@ -12,7 +13,7 @@ use record::RECORD_LENGTH;
 // The most records of a shelf.
 pub(crate) const MAX_RECORDS: usize = MAX_CHANNELS as usize;
 
-// A shelf: 1 to 15 records, held as bytes.
+/// A shelf: 1 to 15 records, held as bytes.
 #[derive(Drop)]
 pub struct Shelf {
     pub(crate) rows: ArrayVec<[u8; RECORD_LENGTH], MAX_RECORDS>,

@@ -1,3 +1,4 @@
+//! How a shelf answers as a rack.
 ghost use Rattle.std.specs.Prelude.{◌≡◌, ◌<◌, IfErr, OnOk};
 ghost use Rattle.std.specs.Option.{option_map};
 ghost use Rattle.std.specs.Result.{result_ok};
@@ -5,7 +6,7 @@ ghost use Rattle.arrayvec.specs.ArrayVec.{array_vec_len};
 ghost use Rattle.refusals.specs.declared.Refusal.TheVariants.{NoChannel};
 ghost use Rattle.record.specs.Layout.{decoded};
 ghost use Rattle.rack.specs.Meaning.{channel_of};
-ghost use Rattle.shelf.specs.Rows.{records_in};
+ghost use Rattle.shelf.specs.Rows.{records_in, WroteRows};
 
 use crate::shelf::Shelf;
 use rack::{Change, Rack, RackRefusal, apply};
@@ -26,6 +27,8 @@ impl Shelf {
 // As a single instrument answers, but from a row: a trait for both would have these methods again.
 impl Rack for Shelf {
     ghost records = { λ s. records_in s.rows.items };
+
+    ghost wrote = { λ old new. WroteRows old.rows.items new.rows.items };
 
     ghost lawful = { λ s. s.lawful };
 

@@ -1,4 +1,4 @@
-// A single instrument: a rack of one channel.
+//! A single instrument: a rack of one channel.
 #![tactic(auto)]
 
 mod single;

@@ -1,11 +1,12 @@
-ghost use Rattle.std.specs.Prelude.{◌≡◌, false, [], ◌∷◌, is_ok, if◌then◌else◌, IfOk, IfErr};
+//! How a single instrument is filled, and how it answers as a rack.
+ghost use Rattle.std.specs.Prelude.{◌≡◌, false, [], ◌∷◌, is_ok, IfOk, IfErr, OnOk};
 ghost use Rattle.std.specs.Option.{option_map};
 ghost use Rattle.std.specs.Result.{result_ok};
 ghost use Rattle.refusals.specs.declared.Refusal.TheVariants.{NoChannel};
 ghost use Rattle.record.specs.Lawful.{Lawful};
 ghost use Rattle.rack.specs.Blank.{blank_record};
-ghost use Rattle.rack.specs.Files.{file_answer, file_records};
-ghost use Rattle.rack.specs.Meaning.{channel_of};
+ghost use Rattle.rack.specs.Files.{file_answer, kept_or_read, Explains, Taken};
+ghost use Rattle.rack.specs.Meaning.{channel_of, WroteRecords};
 
 use crate::single::Single;
 use rack::{Change, FileFault, Rack, RackRefusal, apply, blank_record, check_record};
@@ -13,7 +14,7 @@ use record::{Fields, Reading, Record, record_at};
 use refusals::Refusal;
 
 impl Single {
-    // A single instrument to begin with, until a file fills it.
+    /// A single instrument to begin with, until a file fills it.
     pub fn blank() -> Single
         ensures { result.«record» ≡ blank_record }
     {
@@ -22,10 +23,12 @@ impl Single {
         }
     }
 
-    // Takes the record of a file of just one, or refuses and stays as it was.
+    /// Takes the record of a file of just one, or refuses and stays as it was.
     pub fn fill(&mut self, file: &[u8]) -> Result<(), FileFault>
         ensures answer { result ≡ file_answer 1 file.now }
-        ensures after { self.new.«record» ∷ [] ≡ (if is_ok result then file_records file.now else self.old.«record» ∷ []) }
+        ensures after { self.new.«record» ∷ [] ≡ kept_or_read (is_ok result) file.now (self.old.«record» ∷ []) }
+        ensures explains { IfErr result (Explains 1 file.now) }
+        ensures taken { OnOk result (Taken 1 file.now) }
         ensures same { is_ok result ≡ false → self.new ≡ self.old }
     {
         let row = file.as_array().ok_or(FileFault::Count)?;
@@ -48,6 +51,8 @@ impl Single {
 
 impl Rack for Single {
     ghost records = { λ s. s.«record» ∷ [] };
+
+    ghost wrote = { λ old new. WroteRecords (old.«record» ∷ []) (new.«record» ∷ []) };
 
     ghost lawful = { λ s. (s.lawful, tt) };
 
