@@ -73,7 +73,7 @@ known_setpoint (Some WriteSetpoint) e = refl
 known_setpoint (Some command) e = absurd (true≢false (sym e))
 
 -- the tests of the codes of a setpoint command, by what they ask
-abbrev Tested : Bool → Bool → Bool → Result ℕ SetpointRefusal → ResponseCode → Bool
+abbrev pub Tested : Bool → Bool → Bool → Result ℕ SetpointRefusal → ResponseCode → Bool
 Tested counted open? percent a NotImplemented = false
 Tested counted open? percent a ByteCount = not counted
 Tested counted open? percent a WriteProtected = not open?

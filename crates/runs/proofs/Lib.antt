@@ -12,5 +12,6 @@ pub mod Promises
 pub mod Unsound
 pub mod Answers
 pub mod Effects
+pub mod Judgements
 pub mod Channel
 pub mod SetUps
