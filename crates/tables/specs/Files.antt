@@ -1,5 +1,5 @@
 -- Answers to records, record files and questions for text bytes as they are printed.
-use Rattle.std.specs.Prelude.{ℕ, cond, List, [], ◌∷◌, ◌++◌, length, codes, Some, None, Ok, Err, Option, Result, ◌==◌}
+use Rattle.std.specs.Prelude.{ℕ, Bool, if◌then◌else◌, List, [], ◌∷◌, ◌++◌, length, codes, Some, None, Ok, Err, Option, Result, ◌==◌}
 use Rattle.std.specs.Fmt.{decimal}
 use Rattle.hexdigits.specs.Hex.{hex_of}
 use Rattle.refusals.specs.Refusals as refusals
@@ -7,7 +7,7 @@ use Rattle.refusals.specs.declared.Refusal.TheVariants.{BadRecord}
 use Rattle.record.specs.Faults.{offset_of, fault_of}
 use Rattle.record.specs.declared.Record.{Record}
 use Rattle.record.specs.declared.faults.RecordFault.{RecordFault}
-use Rattle.rack.specs.Files.{refusal_of}
+use Rattle.rack.specs.Files.{refusal_of, file_answer, file_records}
 use Rattle.rack.specs.Meaning.{told}
 use Rattle.rack.specs.Refusals.{number_of}
 use Rattle.rack.specs.declared.refusal.RackRefusal.{RackRefusal}
@@ -34,9 +34,17 @@ byte_text (Err refusal) = refused (number_of refusal)
 
 -- the first fault of 80 bytes
 abbrev pub check_of : List ℕ → Option Checked
-check_of bytes = cond (length bytes == 80) (Some (record { 0 = fault_of bytes })) None
+check_of bytes = if length bytes == 80 then Some (record { 0 = fault_of bytes }) else None
 
 -- how many records a rack tells after a file with this answer and these records
-abbrev pub filled_by : Result (Unit {0}) FileFault → List Record → Result ℕ FileFault
-filled_by (Ok u) records = Ok (told records)
-filled_by (Err fault) records = Err fault
+abbrev pub told_by : Result (Unit {0}) FileFault → List Record → Result ℕ FileFault
+told_by (Ok u) records = Ok (told records)
+told_by (Err fault) records = Err fault
+
+-- how many records a rack with room for so many tells after a file, or why the file is refused
+abbrev pub filled_by : ℕ → List ℕ → Result ℕ FileFault
+filled_by most file = told_by (file_answer most file) (file_records file)
+
+-- the records that a rack holds after a file: those of the file where it was taken, else those from before
+abbrev pub held_after : Bool → List ℕ → List Record → List Record
+held_after taken file before = if taken then file_records file else before

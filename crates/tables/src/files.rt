@@ -1,8 +1,8 @@
 //! Answers to records, record files and questions for text bytes.
 
-ghost use Rattle.std.specs.Prelude.{◌≡◌, ℕ, Some, if◌then◌else◌, is_ok};
-ghost use Rattle.rack.specs.Files.{file_answer, file_records};
-ghost use Rattle.tables.specs.Files.{checked_text, filled_text, byte_text, check_of, filled_by};
+ghost use Rattle.std.specs.Prelude.{◌≡◌, ℕ, Some, OnErr, is_ok};
+ghost use Rattle.rack.specs.Files.{file_answer};
+ghost use Rattle.tables.specs.Files.{checked_text, filled_text, byte_text, check_of, filled_by, held_after};
 
 use hexdigits::Hex;
 use rack::{FileFault, Rack, RackRefusal, blank_record};
@@ -47,8 +47,9 @@ pub struct Filled(pub Result<u8, FileFault>);
 impl Filled {
     /// Fills a rack by a file.
     pub fn by<R: Filling>(rack: &mut R, file: &[u8]) -> Filled
-        ensures answer { result.0 ≡ filled_by (file_answer R.most file.now) (file_records file.now) }
-        ensures after { R.records rack.new ≡ (if is_ok result.0 then file_records file.now else R.records rack.old) }
+        ensures answer { result.0 ≡ filled_by R.most file.now }
+        ensures after { R.records rack.new ≡ held_after (is_ok result.0) file.now (R.records rack.old) }
+        ensures same { OnErr result.0 (rack.new ≡ rack.old) }
     {
         Filled(rack.fill(file).map(|()| rack.count()))
     }
@@ -93,9 +94,11 @@ pub trait Filling: Rack {
     // The most records that it has room for.
     ghost most: { ℕ };
 
+    /// Holds the records of a file, all of them or none.
     fn fill(&mut self, file: &[u8]) -> Result<(), FileFault>
         ensures answer { result ≡ file_answer most file.now }
-        ensures after { Self.records self.new ≡ (if is_ok result then file_records file.now else Self.records self.old) };
+        ensures after { Self.records self.new ≡ held_after (is_ok result) file.now (Self.records self.old) }
+        ensures same { OnErr result (self.new ≡ self.old) };
 }
 
 impl Filling for Shelf {
