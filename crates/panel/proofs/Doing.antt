@@ -1,9 +1,11 @@
 -- What a call does, from its one outcome.
-use Rattle.std.proofs.Common.{◌≡◌, ℕ, ◌<◌, ◌≤◌, Bool, true, false, cond, leb, List, [], ◌∷◌, ◌++◌, length, Some, None, Option, sym, refl, ◌∙◌, subst}
+use Rattle.std.proofs.Common.{◌≡◌, ℕ, ◌<◌, ◌≤◌, List, [], ◌∷◌, ◌++◌, Some, None, Option, sym, refl, subst}
 use Rattle.std.proofs.lemmas.Bool.{le-leb, lt-leb}
 use Rattle.header.specs.Shares.{capacity_of}
 use Rattle.line.specs.Characters.{Character}
-use Rattle.receiver.specs.Holding.{Holds}
+use Rattle.rack.specs.declared.racks.Rack.{Ghosts}
+use Rattle.receiver.specs.Holding.{Holds, pending}
+use Rattle.receiver.proofs.Pending.{holds_pending}
 use Rattle.receiver.specs.declared.state.Receiver.{Receiver}
 use Rattle.record.specs.declared.Record.{Record}
 use Rattle.runs.specs.Channel.{flow_channel}
@@ -12,49 +14,44 @@ use Rattle.runs.specs.Steps.{Step}
 use Rattle.runs.specs.Traces.{Call, Result, character, taken, refused, ◌▸◌}
 use Rattle.runs.proofs.SetUps.{calls_follow}
 use Rattle.panel.specs.declared.state.Panel.{Panel}
-use Rattle.panel.specs.Panels.{channels_of, outcome_for, records_for, Does}
+use Rattle.panel.specs.Panels.{channels_of, outcome_for, outcome_in, records_for, records_in, Does}
 
--- the outcome o is that of the call, for the characters t
+-- the outcome is that of the call, for some pending characters
 pub record Comes (supply : Option ℕ) (records records' : List Record) (x' : Receiver) (o : Outcome flow_channel) (result : Result flow_channel) : Type 0 where
   pub result_is : result ≡ o.result
   pub records_are : records' ≡ records_for supply records o
   pub holds : Holds x' o.pending
 
-module _ (supply : Option ℕ) (records records' : List Record) (x' : Receiver) (c : Call flow_channel) (result : Result flow_channel) where
-  steps_on : (n : ℕ) → supply ≡ Some n → length records ≤ 15 → (t : List Character) → Comes supply records records' x' (outcome_for supply records t c) result
-      → Step flow_channel (capacity_of n) records t (c ▸ result) records' (outcome_for supply records t c).pending
-  steps_on n e few t h =
-      let b = le-leb (length records) 15 few in
-      let rs : channels_of (Some n) records ≡ records = rw b refl in
+module _ (records records' : List Record) (x' : Receiver) (c : Call flow_channel) (result : Result flow_channel) where
+  steps_on : (n : ℕ) (t : List Character) → Comes (Some n) records records' x' (outcome_for (Some n) records t c) result
+      → Step flow_channel (capacity_of n) records t (c ▸ result) records' (outcome_for (Some n) records t c).pending
+  steps_on n t h =
       let o = outcome_for (Some n) records t c in
-      let s : Step flow_channel (capacity_of n) (channels_of (Some n) records) t (c ▸ o.result) o.rack o.pending = calls_follow n (channels_of (Some n) records) t c in
-      let s1 : Step flow_channel (capacity_of n) records t (c ▸ o.result) o.rack o.pending = subst (λ (qs : List Record). Step flow_channel (capacity_of n) qs t (c ▸ o.result) o.rack o.pending) rs s in
-      let k : records_for (Some n) records o ≡ o.rack = rw b refl in
-      let P : Option ℕ → Type 0 = λ (w : Option ℕ). result ≡ (outcome_for w records t c).result in
-      let Q : Option ℕ → Type 0 = λ (w : Option ℕ). records' ≡ records_for w records (outcome_for w records t c) in
-      let r : result ≡ o.result = subst P e h.result_is in
-      let q : records' ≡ o.rack = subst Q e h.records_are ∙ k in
-      let s2 : Step flow_channel (capacity_of n) records t (c ▸ result) o.rack o.pending = subst (λ (y : Result flow_channel). Step flow_channel (capacity_of n) records t (c ▸ y) o.rack o.pending) (sym r) s1 in
-      let s3 : Step flow_channel (capacity_of n) records t (c ▸ result) records' o.pending = subst (λ (qs : List Record). Step flow_channel (capacity_of n) records t (c ▸ result) qs o.pending) (sym q) s2 in
-      subst (λ (w : Option ℕ). Step flow_channel (capacity_of n) records t (c ▸ result) records' (outcome_for w records t c).pending) (sym e) s3
+      let s : Step flow_channel (capacity_of n) records t (c ▸ o.result) o.rack o.pending = calls_follow n records t c in
+      let s1 : Step flow_channel (capacity_of n) records t (c ▸ result) o.rack o.pending = subst (λ (y : Result flow_channel). Step flow_channel (capacity_of n) records t (c ▸ y) o.rack o.pending) (sym h.result_is) s in
+      subst (λ (qs : List Record). Step flow_channel (capacity_of n) records t (c ▸ result) qs o.pending) (sym h.records_are) s1
 
-module _ {X : Type 0} (records : X → List Record) (p p' : Panel X) (c : Call flow_channel) (result : Result flow_channel) where
-  pub does : p'.supply ≡ p.supply → ((t : List Character) → Holds p.receiver t → Comes p.supply (records p.rack) (records p'.rack) p'.receiver (outcome_for p.supply (records p.rack) t c) result) → Does records p p' c result
+  steps_under : (supply : Option ℕ) (n : ℕ) → supply ≡ Some n → (t : List Character) → Comes supply records records' x' (outcome_for supply records t c) result
+      → Step flow_channel (capacity_of n) records t (c ▸ result) records' (outcome_for supply records t c).pending
+  steps_under (Some m) n e t h = let k : m ≡ n = cc in subst (λ (n : ℕ). Step flow_channel (capacity_of n) records t (c ▸ result) records' (outcome_for (Some m) records t c).pending) k (steps_on m t h)
+  steps_under None n e t h = absurd (cc)
+
+module _ {X : Type 0} {G : Ghosts X} (p p' : Panel X G) (c : Call flow_channel) (result : Result flow_channel) where
+  abbrev pub Always : Type 0
+  Always = (t : List Character) → Holds p.receiver t → Comes p.supply (records_in p) (records_in p') p'.receiver (outcome_in p t c) result
+
+  pub does : p'.supply ≡ p.supply → Always → Does p p' c result
   does keeps all = record {
     keeps = keeps;
-    result_is = λ t h. (all t h).result_is;
-    records_are = λ t h. (all t h).records_are;
+    result_is = (all (pending p.receiver) (holds_pending p.receiver)).result_is;
+    records_are = (all (pending p.receiver) (holds_pending p.receiver)).records_are;
     holds = λ t h. (all t h).holds;
-    steps = λ n e few t h. steps_on p.supply (records p.rack) (records p'.rack) p'.receiver c result n e few t (all t h);
+    steps = λ n e t h. steps_under (records_in p) (records_in p') p'.receiver c result p.supply n e t (all t h);
   }
 
 -- an outcome that leaves the channels leaves the records
-unmoved_by : (b : Bool) (records : List Record) → records ≡ cond b (cond b records []) records
-unmoved_by true records = refl
-unmoved_by false records = refl
-
 pub unmoved : (supply : Option ℕ) (records : List Record) (y : Result flow_channel) (t : List Character) → records ≡ records_for supply records (outcome_of flow_channel y (channels_of supply records) t)
-unmoved (Some n) records y t = unmoved_by (leb (length records) 15) records
+unmoved (Some n) records y t = refl
 unmoved None records y t = refl
 
 -- a call that has this outcome and leaves the channels
@@ -63,9 +60,9 @@ pub comes : (supply : Option ℕ) (records : List Record) (x' : Receiver) (o : O
 comes supply records x' o y u e h = subst (λ (o : Outcome flow_channel). Comes supply records records x' o y) (sym e) (record { result_is = refl; records_are = unmoved supply records y u; holds = h })
 
 -- a call that is refused with this outcome, and leaves the panel
-pub refuses : {X : Type 0} (records : X → List Record) (p : Panel X) (c : Call flow_channel) (n : ℕ)
-    → ((t : List Character) → outcome_for p.supply (records p.rack) t c ≡ outcome_of flow_channel (refused n) (channels_of p.supply (records p.rack)) t) → Does records p p c (refused n)
-refuses records p c n e = does records p p c (refused n) refl (λ t h. comes p.supply (records p.rack) p.receiver (outcome_for p.supply (records p.rack) t c) (refused n) t (e t) h)
+pub refuses : {X : Type 0} {G : Ghosts X} (p : Panel X G) (c : Call flow_channel) (n : ℕ)
+    → ((t : List Character) → outcome_in p t c ≡ outcome_of flow_channel (refused n) (channels_of p.supply (records_in p)) t) → Does p p c (refused n)
+refuses p c n e = does p p c (refused n) refl (λ t h. comes p.supply (records_in p) p.receiver (outcome_in p t c) (refused n) t (e t) h)
 
 -- a character
 pub taken_character : (supply : Option ℕ) (records : List Record) (t : List Character) (c : Character) → c.marks ≤ 7

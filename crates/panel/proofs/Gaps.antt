@@ -1,10 +1,10 @@
 -- A gap serves just what the run relation says.
-use Rattle.std.proofs.Common.{◌≡◌, ℕ, ◌+◌, ◌<◌, ◌≤◌, min, Bool, true, false, cond, ◌&&◌, ltb, leb, List, [], ◌∷◌, length, set, Some, None, Option, sym, refl, ap, ◌∙◌, subst, inl, inr, arith}
+use Rattle.std.proofs.Common.{◌≡◌, ℕ, ◌+◌, ◌<◌, ◌≤◌, min, Bool, true, false, cond, ◌&&◌, ltb, leb, List, [], ◌∷◌, length, set, IfSome, Some, None, Option, length-set, sym, refl, ap, ◌∙◌, subst, inl, inr, arith}
 use Rattle.std.specs.Result.{result_ok}
 use Rattle.std.specs.List.{AllByRecursion}
 use Rattle.std.proofs.ByRecursion.{All-drop}
 use Rattle.std.proofs.lemmas.List.{take_all}
-use Rattle.std.proofs.lemmas.Bool.{cases_Bool, le-leb, le-ltb, ltb-true, ltb-false, leb-true, cond-true, cond-false}
+use Rattle.std.proofs.lemmas.Bool.{cases_Bool, le-leb, le-ltb, ltb-true, ltb-false, cond-true}
 use Rattle.std.proofs.lemmas.Bool.Decides.{nat_tests}
 use Rattle.frame.specs.Frames.{Parts, request_frame}
 use Rattle.frame.specs.Transmissions.{preambles_of, span_of}
@@ -29,11 +29,11 @@ use Rattle.runs.specs.Shares.{others}
 use Rattle.runs.specs.Traces.{gap, silent, answered}
 use Rattle.runs.proofs.Unsound.{whole_frame}
 use Rattle.serving.specs.Meant.{sole_meant}
-use Rattle.serving.specs.Serving.{Served, silence, header_for, served_by, served_record, served_place, served_frame, served}
+use Rattle.serving.specs.Serving.{Served, silence, header_for, served_by, served_record, served_place, served_frame, served, served_into}
 use Rattle.serving.proofs.Writes.{set_record, record_of_channel}
-use Rattle.panel.specs.Panels.{channels_of, capacity_for, outcome_for, records_for, served_reception, panel_served, served_result}
+use Rattle.panel.specs.Panels.{outcome_for, served_reception, panel_served, served_result}
 use Rattle.panel.proofs.Doing.{Comes, comes}
-use Rattle.panel.proofs.Places.{element_channel, channels_few}
+use Rattle.panel.proofs.Places.{element_channel}
 use Rattle.panel.proofs.Splits.{outcome_split}
 
 -- what a call leaves of what was served
@@ -125,41 +125,36 @@ kept_served supply rs t a = elim (cases_Bool (ltb 264 (length (span_of (bytes_in
       rw b (ap (λ (u : List ℕ). served supply rs (record { preambles = min (received t).preambles 2; span = u; marks = (received t).marks })) s ∙ low_served supply rs (received t))
 ]
 
--- a rack of too many records serves nobody
-many_place : (supply : ℕ) (rs : List Record) (x : Reception) → leb (length rs) 15 ≡ false → (o : Option Parts) → served_frame supply rs x o ≡ silence rs
-many_place supply rs x b (Some f) = ap (served_place supply rs x f) (cond-false _ _ _ b)
-many_place supply rs x b None = refl
-
-many : (supply : ℕ) (rs : List Record) (o : Option Reception) → leb (length rs) 15 ≡ false → served_reception supply rs o ≡ silence rs
-many supply rs (Some x) b = many_place supply rs x b (frame_of x)
-many supply rs None b = refl
-
 -- without channels a gap is silent
-silent_gap : (capacity : ℕ) (t : List Character) (n : ℕ) → 64 ≤ n → runs.outcome flow_channel capacity [] t (gap n) ≡ outcome_of flow_channel silent [] []
-silent_gap capacity t n l = rw (le-ltb n 64 l) refl
-
-nobody : (supply : Option ℕ) (rs : List Record) (t : List Character) (n : ℕ) → 64 ≤ n → channels_of supply rs ≡ [] → outcome_for supply rs t (gap n) ≡ outcome_of flow_channel silent (channels_of supply rs) []
-nobody supply rs t n l e =
-    subst (λ (qs : List Record). runs.outcome flow_channel (capacity_for supply) qs t (gap n) ≡ outcome_of flow_channel silent qs []) (sym e) (silent_gap (capacity_for supply) t n l)
+silent_gap : (records : List Record) (t : List Character) (n : ℕ) → 64 ≤ n → outcome_for None records t (gap n) ≡ outcome_of flow_channel silent [] []
+silent_gap records t n l = rw (le-ltb n 64 l) refl
 
 module _ (rs : List Record) (x x' : Receiver) (t : List Character) (n : ℕ) (holds : Holds x t) (room : 64 ≤ n) (new : Holds x' []) where
-  few_comes : (supply : ℕ) → length rs ≤ 15
-      → Comes (Some supply) rs (panel_served (Some supply) rs (held x)).records x' (outcome_for (Some supply) rs t (gap n)) (served_result (panel_served (Some supply) rs (held x)).answer)
-  few_comes supply few =
+  set_comes : (supply : ℕ) → length rs ≤ 15 → Comes (Some supply) rs (panel_served (Some supply) rs (held x)).records x' (outcome_for (Some supply) rs t (gap n)) (served_result (panel_served (Some supply) rs (held x)).answer)
+  set_comes supply few =
       let s : panel_served (Some supply) rs (held x) ≡ served supply rs (received t) = ap (λ (y : Summary). served_reception supply rs (reception y)) holds.kept ∙ kept_served supply rs t holds.bytes in
-      let o : outcome_for (Some supply) rs t (gap n) ≡ outcome_as (panel_served (Some supply) rs (held x)) = ap (λ (qs : List Record). runs.outcome flow_channel (capacity_of supply) qs t (gap n)) (channels_few supply rs few) ∙ (gap_served supply rs t few n room ∙ ap outcome_as (sym s)) in
+      let o : outcome_for (Some supply) rs t (gap n) ≡ outcome_as (panel_served (Some supply) rs (held x)) = gap_served supply rs t few n room ∙ ap outcome_as (sym s) in
       let y = panel_served (Some supply) rs (held x) in
-      let f : records_for (Some supply) rs (outcome_as y) ≡ y.records = cond-true _ _ _ (le-leb (length rs) 15 few) in
-      subst (λ (p : Outcome flow_channel). Comes (Some supply) rs y.records x' p (served_result y.answer)) (sym o) (record { result_is = refl; records_are = sym f; holds = new })
+      subst (λ (p : Outcome flow_channel). Comes (Some supply) rs y.records x' p (served_result y.answer)) (sym o) (record { result_is = refl; records_are = refl; holds = new })
 
-  none_comes : (supply : Option ℕ) (s : Served) → channels_of supply rs ≡ [] → s ≡ silence rs → Comes supply rs s.records x' (outcome_for supply rs t (gap n)) (served_result s.answer)
-  none_comes supply s e k =
-      subst (λ (y : Served). Comes supply rs y.records x' (outcome_for supply rs t (gap n)) (served_result y.answer)) (sym k)
-      (comes supply rs x' (outcome_for supply rs t (gap n)) silent [] (nobody supply rs t n room e) new)
+  pub gap_comes : (supply : Option ℕ) → IfSome supply (λ _. length rs ≤ 15)
+      → Comes supply rs (panel_served supply rs (held x)).records x' (outcome_for supply rs t (gap n)) (served_result (panel_served supply rs (held x)).answer)
+  gap_comes None few = comes None rs x' (outcome_for None rs t (gap n)) silent [] (silent_gap rs t n room) new
+  gap_comes (Some supply) few = set_comes supply few
 
-  pub gap_comes : (supply : Option ℕ) → Comes supply rs (panel_served supply rs (held x)).records x' (outcome_for supply rs t (gap n)) (served_result (panel_served supply rs (held x)).answer)
-  gap_comes None = none_comes None (silence rs) refl refl
-  gap_comes (Some supply) = elim (cases_Bool (leb (length rs) 15)) [
-    | inl b ↦ few_comes supply (leb-true (length rs) 15 b)
-    | inr b ↦ none_comes (Some supply) (panel_served (Some supply) rs (held x)) (cond-false _ _ _ b) (many supply rs (reception (held x)) b)
-  ]
+-- a gap keeps the number of records
+module _ (supply : ℕ) (rs : List Record) where
+  count_record : (x : Reception) (f : Parts) (k : ℕ) (o : Option Record) → length (served_record supply rs x f k o).records ≡ length rs
+  count_record x f k (Some r) = length-set rs k (outcome x f r (header_for supply rs k)).after
+  count_record x f k None = refl
+
+  count_place : (x : Reception) (f : Parts) (o : Option ℕ) → length (served_place supply rs x f o).records ≡ length rs
+  count_place x f (Some k) = count_record x f k (channel_of rs k)
+  count_place x f None = refl
+
+  count_frame : (x : Reception) (o : Option Parts) → length (served_frame supply rs x o).records ≡ length rs
+  count_frame x (Some f) = count_place x f (sole_meant f rs)
+  count_frame x None = refl
+
+  pub count_into : (buffer : List ℕ) (x : Reception) → length (served_into buffer supply rs x).records ≡ length rs
+  count_into buffer x = elim (ltb (length buffer) 64) as (λ b. length (cond b (silence rs) (served supply rs x)).records ≡ length rs) [ true ↦ refl | false ↦ count_frame x (frame_of x) ]

@@ -1,3 +1,4 @@
+pub mod Panels
 pub mod Doing
 pub mod Places
 pub mod Locals
@@ -5,3 +6,4 @@ pub mod Splits
 pub mod Gaps
 pub mod Results
 pub mod Working
+pub mod Alone

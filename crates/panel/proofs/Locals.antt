@@ -1,8 +1,8 @@
 -- Samples and key turns, by what the rack answers.
-use Rattle.std.proofs.Common.{◌≡◌, ℕ, ◌≤◌, Bool, true, false, cond, ◌&&◌, leb, List, length, is_some, Some, None, Ok, Err, Option, MatchResult, IsErrAnd, sym, refl, ap, ◌∙◌, subst, true≢false, arith, slice_get}
+use Rattle.std.proofs.Common.{◌≡◌, ℕ, ◌≤◌, Bool, true, false, cond, leb, List, length, is_ok, is_some, IfSome, Some, None, Ok, Err, Option, MatchResult, IsErrAnd, sym, refl, ap, ◌∙◌, subst, true≢false, arith}
 use Rattle.std.specs.Result.{result_err}
 use Rattle.std.specs.declared.result.Result as results
-use Rattle.std.proofs.lemmas.Bool.{le-leb, leb-true, cond-true}
+use Rattle.std.proofs.lemmas.Bool.{le-leb, cond-true}
 use Rattle.line.specs.Characters.{Character}
 use Rattle.rack.specs.Changes.{written, answer_of}
 use Rattle.rack.specs.Refusals as rack
@@ -16,13 +16,14 @@ use Rattle.record.specs.declared.Record.{Record}
 use Rattle.receiver.specs.Holding.{Holds}
 use Rattle.receiver.specs.declared.state.Receiver.{Receiver}
 use Rattle.runs.specs.Channel.{flow_channel, Operation, sample, key, change_of}
-use Rattle.runs.specs.Outcomes.{Outcome, operated_at}
+use Rattle.runs.specs.Outcomes.{Outcome, outcome_of, operated_at}
 use Rattle.runs.specs.Traces.{Result, local, taken, refused, local_result}
 use Rattle.serving.proofs.Writes.{written_after}
 use Rattle.panel.specs.declared.state.Panel.{Panel}
-use Rattle.panel.specs.Panels.{outcome_for, records_for, Does, result_of}
-use Rattle.panel.proofs.Doing.{Comes, does}
-use Rattle.panel.proofs.Places.{element_channel, channels_few}
+use Rattle.rack.specs.declared.racks.Rack.{Ghosts}
+use Rattle.panel.specs.Panels.{channels_of, outcome_for, records_in, Does, result_of}
+use Rattle.panel.proofs.Doing.{Comes, does, refuses}
+use Rattle.panel.proofs.Places.{element_channel}
 
 -- a rack's answer as a result
 abbrev rack_result : results.Result (Unit {0}) ℕ → Result flow_channel
@@ -39,24 +40,20 @@ by_record : (o : Option Record) (rs : List Record) (t : List Character) (k : ℕ
 by_record (Some r) rs t k u e = (local_result_lem (written (change_of u) r), written_after rs k r (change_of u) e)
 by_record None rs t k u e = (refl, ap (λ (o : Option Record). records_after (answered (written (change_of u)) o) rs k) e)
 
-line_kept : (o : Option Record) (rs : List Record) (t : List Character) (k : ℕ) (u : Operation) → t ≡ (operated_at flow_channel rs t k u o).pending
-line_kept (Some r) rs t k u = refl
-line_kept None rs t k u = refl
+pending_kept : (o : Option Record) (rs : List Record) (t : List Character) (k : ℕ) (u : Operation) → t ≡ (operated_at flow_channel rs t k u o).pending
+pending_kept (Some r) rs t k u = refl
+pending_kept None rs t k u = refl
 
 module _ (n : ℕ) (rs rs' : List Record) (x : Receiver) (t : List Character) (k : ℕ) (u : Operation) (few : length rs ≤ 15) (holds : Holds x t)
     (after : rs' ≡ records_after (written_at rs k (change_of u)) rs k) where
-  outcome_is : outcome_for (Some n) rs t (local k u) ≡ operated_at flow_channel rs t k u (channel_of rs k)
-  outcome_is = ap (λ (qs : List Record). operated_at flow_channel qs t k u (slice_get qs k)) (channels_few n rs few) ∙ ap (operated_at flow_channel rs t k u) (element_channel rs k few)
-
   pub local_comes : (y : Result flow_channel) → y ≡ rack_result (answer_of (written_at rs k (change_of u))) → Comes (Some n) rs rs' x (outcome_for (Some n) rs t (local k u)) y
   local_comes y e =
       let b = by_record (channel_of rs k) rs t k u refl in
-      let o = operated_at flow_channel rs t k u (channel_of rs k) in
-      let f : records_for (Some n) rs o ≡ o.rack = rw (le-leb (length rs) 15 few) refl in
-      subst (λ (p : Outcome flow_channel). Comes (Some n) rs rs' x p y) (sym outcome_is) (record {
+      let s = ap (operated_at flow_channel rs t k u) (element_channel rs k few) in
+      subst (λ (p : Outcome flow_channel). Comes (Some n) rs rs' x p y) (sym s) (record {
         result_is = e ∙ b.0;
-        records_are = after ∙ (b.1 ∙ sym f);
-        holds = subst (Holds x) (line_kept (channel_of rs k) rs t k u) holds;
+        records_are = after ∙ b.1;
+        holds = subst (Holds x) (pending_kept (channel_of rs k) rs t k u) holds;
       })
 
 -- these operations are refused by the numbers of calls only
@@ -82,22 +79,34 @@ calls_answer w (Ok u) r a n h = rw (h, ← a) refl
 calls_answer w (Err e) (Ok u) a n h = absurd h
 calls_answer w (Err e) (Err d) a n h = ap refused (h ∙ cond-true _ _ _ (le-leb 100 (rack.number_of e) (n (rack.number_of e) (sym a)))) ∙ ap rack_result a
 
+pub not_written : (q : results.Result (Unit {0}) RackRefusal) (r : results.Result (Unit {0}) Refusal) → CallsAnswer q r → is_ok r ≡ false → is_ok q ≡ false
+not_written (Ok u) (Ok v) h e = cc
+not_written (Ok u) (Err d) h e = absurd (cc)
+not_written (Err e) r h k = refl
+
 -- an operation on a panel that was set up
-operated_comes : (supply : Option ℕ) (rs rs' : List Record) (x : Receiver) (k : ℕ) (u : Operation) → true ≡ (is_some supply && leb (length rs) 15)
+operated_comes : (supply : Option ℕ) (rs rs' : List Record) (x : Receiver) (k : ℕ) (u : Operation) → IfSome supply (λ _. length rs ≤ 15) → is_some supply ≡ true
     → rs' ≡ records_after (written_at rs k (change_of u)) rs k → (y : Result flow_channel) → y ≡ rack_result (answer_of (written_at rs k (change_of u)))
     → (t : List Character) → Holds x t → Comes supply rs rs' x (outcome_for supply rs t (local k u)) y
-operated_comes (Some n) rs rs' x k u up after y e t h = local_comes n rs rs' x t k u (leb-true (length rs) 15 (sym up)) h after y e
-operated_comes None rs rs' x k u up after y e t h = absurd (true≢false up)
+operated_comes (Some n) rs rs' x k u few up after y e t h = local_comes n rs rs' x t k u few h after y e
+operated_comes None rs rs' x k u few up after y e t h = absurd (true≢false (sym up))
 
-module _ {X : Type 0} (records : X → List Record) (p : Panel X) (after : X) (k : ℕ) (u : Operation) (q : results.Result (Unit {0}) RackRefusal) (r : results.Result (Unit {0}) Refusal) where
-  abbrev rs : List Record
-  rs = records p.rack
+-- and on one that was not
+missed : (supply : Option ℕ) (rs : List Record) (t : List Character) (k : ℕ) (u : Operation) → is_some supply ≡ false
+    → outcome_for supply rs t (local k u) ≡ outcome_of flow_channel (refused 101) (channels_of supply rs) t
+missed None rs t k u e = refl
+missed (Some n) rs t k u e = absurd (true≢false e)
 
+pub misses : {X : Type 0} {G : Ghosts X} (p : Panel X G) (k : ℕ) (u : Operation) → is_some p.supply ≡ false → Does p p (local k u) (refused 101)
+misses p k u e = refuses p (local k u) 101 (λ t. missed p.supply (records_in p) t k u e)
+
+module _ {X : Type 0} {G : Ghosts X} (p p' : Panel X G) (k : ℕ) (u : Operation) (q : results.Result (Unit {0}) RackRefusal) (r : results.Result (Unit {0}) Refusal) where
   abbrev ByChange : Change → Type 0
-  ByChange x = records after ≡ records_after (written_at rs k x) rs k → rack.numbered q ≡ answer_of (written_at rs k x) → Does records p (record p { rack = after }) (local k u) (result_of r)
+  ByChange x = records_in p' ≡ records_after (written_at (records_in p) k x) (records_in p) k → rack.numbered q ≡ answer_of (written_at (records_in p) k x) → Does p p' (local k u) (result_of r)
 
-  pub operated : true ≡ (is_some p.supply && leb (length rs) 15) → CallsAnswer q r → (x : Change) → x ≡ change_of u → ByChange x
-  operated up cases x e =
+  pub operated : p'.supply ≡ p.supply → p'.receiver ≡ p.receiver → is_some p.supply ≡ true → CallsAnswer q r → (x : Change) → x ≡ change_of u → ByChange x
+  operated keeps hears up cases x e =
       subst ByChange (sym e) (λ wrote answer.
+      let rs = records_in p in
       let y = calls_answer (written_at rs k (change_of u)) q r answer (local_number rs k u) cases in
-      does records p (record p { rack = after }) (local k u) (result_of r) refl (operated_comes p.supply rs (records after) p.receiver k u up wrote (result_of r) y))
+      does p p' (local k u) (result_of r) keeps (λ t h. operated_comes p.supply rs (records_in p') p'.receiver k u p.few up wrote (result_of r) y t (subst (λ (x : Receiver). Holds x t) (sym hears) h)))

@@ -1,7 +1,8 @@
 -- The record at a place, as the run relation and as the rack say it.
-use Rattle.std.proofs.Common.{◌≡◌, ℕ, zero, suc, ◌<◌, ◌≤◌, true, ◌&&◌, leb, List, [], ◌∷◌, ◌++◌, length, drop, is_some, Some, None, Ok, Err, Option, Result, MatchOption, sym, refl, ap, ◌∙◌, subst, true≢false, slice_get}
-use Rattle.std.proofs.lemmas.Bool.{le-leb, leb-true, lt-ltb, le-ltb}
+use Rattle.std.proofs.Common.{◌≡◌, ℕ, zero, suc, ◌<◌, ◌≤◌, true, List, [], ◌∷◌, ◌++◌, length, drop, is_some, IfSome, Some, None, Ok, Err, Option, Result, MatchOption, sym, refl, ap, ◌∙◌, subst, true≢false, slice_get}
+use Rattle.std.proofs.lemmas.Bool.{lt-ltb, le-ltb}
 use Rattle.std.specs.Option.{ok_or}
+use Rattle.refusals.specs.Filling.{in_front}
 use Rattle.refusals.specs.Refusals.{number_of}
 use Rattle.refusals.specs.declared.Refusal.{Refusal}
 use Rattle.refusals.specs.declared.Refusal.TheVariants.{NoChannel, ShortBuffer}
@@ -18,9 +19,6 @@ element_record (r ∷ records) (suc k) = element_record records k
 
 pub element_channel : (records : List Record) (k : ℕ) → length records ≤ 15 → slice_get records k ≡ channel_of records k
 element_channel records k few = element_record records k ∙ sym (channel_record records k few)
-
-pub channels_few : (n : ℕ) (records : List Record) → length records ≤ 15 → channels_of (Some n) records ≡ records
-channels_few n records few = rw (le-leb (length records) 15 few) refl
 
 -- what a look says, by the record that is there
 pub record Looked (buffer : List ℕ) (said : Result (Unit {0}) ℕ) (after : List ℕ) (o : Option Record) : Type 0 where
@@ -39,17 +37,18 @@ short {buffer} (Some q) r h P None e l f =
     let b = lt-ltb (length buffer) 80 l in
     record { answer = rw b (let k : e ≡ ShortBuffer = cc in ap (λ (x : Refusal). Err (number_of x)) k); leaves = rw b refl }
 
-pub filled : {buffer bytes : List ℕ} (o : Option Record) (r : Record) → Ok r ≡ ok_or o NoChannel → 80 ≤ length buffer → bytes ≡ encoded r → Looked buffer (Ok tt) (bytes ++ drop 80 buffer) o
-filled None r h l b = absurd (cc)
-filled {buffer} (Some q) r h l e =
+pub filled : {buffer bytes : List ℕ} (o : Option Record) (r : Record) → Ok r ≡ ok_or o NoChannel → 80 ≤ length buffer → length bytes ≡ 80 → bytes ≡ encoded r → Looked buffer (Ok tt) (bytes ++ drop 80 buffer) o
+filled None r h l n b = absurd (cc)
+filled {buffer} {bytes} (Some q) r h l n e =
     let b = le-ltb (length buffer) 80 l in
-    record { answer = rw b refl; leaves = rw b (let k : r ≡ q = cc in ap (λ (x : List ℕ). x ++ drop 80 buffer) (e ∙ ap encoded k)) }
+    let k : r ≡ q = cc in
+    record { answer = rw b refl; leaves = rw b (ap (λ (m : ℕ). bytes ++ drop m buffer) (sym n) ∙ ap (λ (x : List ℕ). in_front x buffer) (e ∙ ap encoded k)) }
 
 -- the record that is found at a channel is that of the panel, if it was set up
-channel_here : (supply : Option ℕ) (records : List Record) (k : ℕ) → true ≡ (is_some supply && leb (length records) 15) → channel_of records k ≡ slice_get (channels_of supply records) k
-channel_here (Some n) records k e = let few = leb-true (length records) 15 (sym e) in sym (ap (λ (rs : List Record). slice_get rs k) (channels_few n records few) ∙ element_channel records k few)
-channel_here None records k e = absurd (true≢false e)
+pub channel_here : (supply : Option ℕ) (records : List Record) (k : ℕ) → IfSome supply (λ _. length records ≤ 15) → is_some supply ≡ true → channel_of records k ≡ slice_get (channels_of supply records) k
+channel_here (Some n) records k few e = sym (element_channel records k few)
+channel_here None records k few e = absurd (true≢false (sym e))
 
-pub looked : (supply : Option ℕ) (records : List Record) (k : ℕ) → true ≡ (is_some supply && leb (length records) 15) → (found : Option Record) → found ≡ channel_of records k
+pub looked : (supply : Option ℕ) (records : List Record) (k : ℕ) → IfSome supply (λ _. length records ≤ 15) → is_some supply ≡ true → (found : Option Record) → found ≡ channel_of records k
     → {buffer : List ℕ} {said : Result (Unit {0}) ℕ} {after : List ℕ} → Looked buffer said after found → Looked buffer said after (slice_get (channels_of supply records) k)
-looked supply records k up found told {buffer} {said} {after} = subst (Looked buffer said after) (told ∙ channel_here supply records k up)
+looked supply records k few up found told {buffer} {said} {after} = subst (Looked buffer said after) (told ∙ channel_here supply records k few up)

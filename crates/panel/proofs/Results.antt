@@ -4,13 +4,14 @@ use Rattle.std.proofs.lemmas.List.{take_at}
 use Rattle.std.proofs.lemmas.Bool.{lt-ltb}
 use Rattle.std.specs.Option.{option_map}
 use Rattle.line.specs.Characters.{Character}
+use Rattle.rack.specs.declared.racks.Rack.{Ghosts}
 use Rattle.receiver.specs.Holding.{Holds}
 use Rattle.record.specs.declared.Record.{Record}
 use Rattle.runs.specs.Channel.{flow_channel}
 use Rattle.runs.specs.Outcomes.{outcome_of}
 use Rattle.runs.specs.Traces.{Result, gap, refused, silent}
 use Rattle.serving.specs.Serving.{channel_and_length, front_of}
-use Rattle.panel.specs.Panels.{channels_of, outcome_for, Does, served_in, served_result, gap_result_of, buffer_of}
+use Rattle.panel.specs.Panels.{channels_of, outcome_for, records_in, Does, served_in, served_result, gap_result_of, buffer_of}
 use Rattle.panel.specs.declared.state.Panel.{Panel}
 use Rattle.serving.specs.declared.serving.Answer.{Answer}
 use Rattle.panel.proofs.Doing.{does}
@@ -48,12 +49,11 @@ front_is None buffer = refl
 pub buffer_is : (y : Result flow_channel) (a : Option (ℕ × List ℕ)) (buffer buffer' : List ℕ) → y ≡ served_result a → buffer' ≡ front_of a buffer → buffer' ≡ buffer_of y buffer
 buffer_is y a buffer buffer' e b = b ∙ (front_is a buffer ∙ ap (λ (z : Result flow_channel). buffer_of z buffer) (sym e))
 
-pub gap_does : {X : Type 0} (records : X → List Record) (p p' : Panel X) (n : ℕ) (y : Result flow_channel) → 64 ≤ n → Holds p'.receiver [] → p'.supply ≡ p.supply
-    → records p'.rack ≡ (served_in records p).records → y ≡ served_result (served_in records p).answer → Does records p p' (gap n) y
-gap_does records p p' n y room new k r e =
-    let rs = records p.rack in
-    does records p p' (gap n) y k (λ t h.
-    let c = gap_comes rs p.receiver p'.receiver t n h room new p.supply in
+pub gap_does : {X : Type 0} {G : Ghosts X} (p p' : Panel X G) (n : ℕ) (y : Result flow_channel) → 64 ≤ n → Holds p'.receiver [] → p'.supply ≡ p.supply
+    → records_in p' ≡ (served_in p).records → y ≡ served_result (served_in p).answer → Does p p' (gap n) y
+gap_does p p' n y room new k r e =
+    does p p' (gap n) y k (λ t h.
+    let c = gap_comes (records_in p) p.receiver p'.receiver t n h room new p.supply p.few in
     record { result_is = e ∙ c.result_is; records_are = r ∙ c.records_are; holds = c.holds })
 
 pub short_gap : (supply : Option ℕ) (rs : List Record) (t : List Character) (n : ℕ) → n < 64 → outcome_for supply rs t (gap n) ≡ outcome_of flow_channel (refused 102) (channels_of supply rs) t

@@ -1,2 +1,4 @@
+pub mod Few
 pub mod Panels
 pub mod Working
+pub mod Alone

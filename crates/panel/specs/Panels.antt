@@ -1,53 +1,71 @@
 -- What a call on a panel does.
-use Rattle.std.specs.Prelude.{◌≡◌, ℕ, ◌≤◌, cond, List, [], ◌++◌, length, take, drop, Some, None, Ok, Err, Option, nat_le, nat_lt}
+use Rattle.std.specs.Prelude.{◌≡◌, ℕ, if◌then◌else◌, List, [], ◌++◌, length, take, drop, Some, None, Ok, Err, Option, leb, nat_lt, slice_get}
 use Rattle.std.specs.declared.result.Result as results
 use Rattle.header.specs.Shares.{capacity_of}
 use Rattle.line.specs.Characters.{Character, Reception}
-use Rattle.receiver.specs.Holding.{Holds}
+use Rattle.rack.specs.declared.racks.Rack.{Ghosts}
+use Rattle.rack.specs.declared.changes.Change.{Change}
+use Rattle.receiver.specs.Holding.{Holds, pending}
 use Rattle.receiver.specs.Summaries.{Summary, reception, held}
 use Rattle.record.specs.Layout.{encoded}
 use Rattle.record.specs.declared.Record.{Record}
+use Rattle.refusals.specs.Filling.{in_front}
 use Rattle.refusals.specs.Refusals.{number_of}
 use Rattle.refusals.specs.declared.Refusal.{Refusal}
-use Rattle.runs.specs.Channel.{flow_channel}
+use Rattle.runs.specs.Channel.{flow_channel, Operation, change_of}
 use Rattle.runs.specs.Outcomes.{Outcome, outcome}
 use Rattle.runs.specs.Steps.{Step}
-use Rattle.runs.specs.Traces.{Call, Result, taken, refused, silent, answered, ◌▸◌}
+use Rattle.runs.specs.Traces.{Call, Result, gap, local, taken, refused, silent, answered, ◌▸◌}
 use Rattle.serving.specs.Serving.{Served, silence, served}
 use Rattle.serving.specs.declared.serving.Answer.{Answer}
 use Rattle.panel.specs.declared.state.Panel.{Panel}
 
--- The channels of a panel are those of its rack, once a set-up was taken; before, it has none. A set-up is refused where there are
--- more than 15, and a rack keeps its number of records.
+-- The channels of a panel are those of its rack, once a set-up was taken; before, it has none.
 abbrev pub channels_of : Option ℕ → List Record → List Record
-channels_of (Some supply) records = cond (nat_le (length records) 15) records []
+channels_of (Some supply) records = records
 channels_of None records = []
-
-abbrev pub channels_in : {X : Type 0} → (X → List Record) → Panel X → List Record
-channels_in records p = channels_of p.supply (records p.rack)
 
 abbrev pub capacity_for : Option ℕ → ℕ
 capacity_for (Some supply) = capacity_of supply
 capacity_for None = 0
 
--- the one outcome of a call, with the characters t taken since the last taken gap
+-- the one outcome of a call, where these characters t are pending
 abbrev pub outcome_for : Option ℕ → List Record → List Character → Call flow_channel → Outcome flow_channel
-outcome_for supply records t c = outcome flow_channel (capacity_for supply) (channels_of supply records) t c
+outcome_for supply records t call = outcome flow_channel (capacity_for supply) (channels_of supply records) t call
 
--- the records of the rack after it
+-- the records of the rack after it: a panel that was not set up leaves them
 abbrev pub records_for : Option ℕ → List Record → Outcome flow_channel → List Record
-records_for (Some supply) records o = cond (nat_le (length records) 15) o.rack records
+records_for (Some supply) records o = o.rack
 records_for None records o = records
 
--- A call that keeps the supply of a panel, whose rack means these records, has this result; for whatever characters the receiver
--- holds, it is their one outcome, and on a panel that was set up it is one step of the run relation.
-pub record Does {X : Type 0} (records : X → List Record) (p p' : Panel X) (c : Call flow_channel) (result : Result flow_channel) : Type 0 where
-  pub keeps : p'.supply ≡ p.supply
-  pub result_is : (t : List Character) → Holds p.receiver t → result ≡ (outcome_for p.supply (records p.rack) t c).result
-  pub records_are : (t : List Character) → Holds p.receiver t → records p'.rack ≡ records_for p.supply (records p.rack) (outcome_for p.supply (records p.rack) t c)
-  pub holds : (t : List Character) → Holds p.receiver t → Holds p'.receiver (outcome_for p.supply (records p.rack) t c).pending
-  pub steps : (n : ℕ) → p.supply ≡ Some n → length (records p.rack) ≤ 15 → (t : List Character) → Holds p.receiver t
-      → Step flow_channel (capacity_of n) (records p.rack) t (c ▸ result) (records p'.rack) (outcome_for p.supply (records p.rack) t c).pending
+module _ {X : Type 0} {G : Ghosts X} where
+  -- the records that the rack of a panel means
+  abbrev pub records_in : Panel X G → List Record
+  records_in p = G.records p.rack
+
+  abbrev pub channels_in : Panel X G → List Record
+  channels_in p = channels_of p.supply (records_in p)
+
+  abbrev pub channel_in : Panel X G → ℕ → Option Record
+  channel_in p channel = slice_get (channels_in p) channel
+
+  abbrev pub outcome_in : Panel X G → List Character → Call flow_channel → Outcome flow_channel
+  outcome_in p t call = outcome_for p.supply (records_in p) t call
+
+  -- A call that keeps the supply of a panel has this result and leaves these records: they are those of its one outcome, by the
+  -- characters that the receiver may be taken to hold. Whatever characters it holds, it then holds those after the call; and on a
+  -- panel that was set up the call is one step of the run relation.
+  pub record Does (p p' : Panel X G) (call : Call flow_channel) (result : Result flow_channel) : Type 0 where
+    pub keeps : p'.supply ≡ p.supply
+    pub result_is : result ≡ (outcome_in p (pending p.receiver) call).result
+    pub records_are : records_in p' ≡ records_for p.supply (records_in p) (outcome_in p (pending p.receiver) call)
+    pub holds : (t : List Character) → Holds p.receiver t → Holds p'.receiver (outcome_in p t call).pending
+    pub steps : (supply : ℕ) → p.supply ≡ Some supply → (t : List Character) → Holds p.receiver t
+        → Step flow_channel (capacity_of supply) (records_in p) t (call ▸ result) (records_in p') (outcome_in p t call).pending
+
+  -- what is done at a channel itself, where it is this write
+  abbrev pub Operates : Panel X G → Panel X G → ℕ → Change → Result flow_channel → Type 0
+  Operates p p' channel change result = (u : Operation) → change ≡ change_of u → Does p p' (local channel u) result
 
 -- a call's answer as the result of a trace
 abbrev pub result_of : results.Result (Unit {0}) Refusal → Result flow_channel
@@ -60,6 +78,14 @@ gap_result_of (Ok None) buffer = silent
 gap_result_of (Ok (Some a)) buffer = answered a.channel (take a.length buffer)
 gap_result_of (Err e) buffer = refused (number_of e)
 
+-- a gap with a lent buffer
+abbrev pub gap_with : List ℕ → Call flow_channel
+gap_with buffer = gap (length buffer)
+
+-- the number of a call's refusal by that of a rack's: a rack's response code is none
+abbrev pub call_number : ℕ → ℕ
+call_number number = if leb 100 number then number else 110
+
 -- what a panel's channels do at the end of a transmission of which this is kept
 abbrev pub served_reception : ℕ → List Record → Option Reception → Served
 served_reception supply records (Some x) = served supply records x
@@ -69,32 +95,31 @@ abbrev pub panel_served : Option ℕ → List Record → Summary → Served
 panel_served (Some supply) records s = served_reception supply records (reception s)
 panel_served None records s = silence records
 
-abbrev pub served_in : {X : Type 0} → (X → List Record) → Panel X → Served
-served_in records p = panel_served p.supply (records p.rack) (held p.receiver)
+abbrev pub served_in : {X : Type 0} {G : Ghosts X} → Panel X G → Served
+served_in p = panel_served p.supply (records_in p) (held p.receiver)
 
 -- who answers, if anybody, as the result of a trace
 abbrev pub served_result : Option (ℕ × List ℕ) → Result flow_channel
 served_result (Some a) = answered a.0 a.1
 served_result None = silent
 
--- the buffer after a gap: the answer stands in its front; silent or refused, it is as it was
+-- the buffer after a call: an answer stands in its front, and no other result touches it
 abbrev pub buffer_of : Result flow_channel → List ℕ → List ℕ
 buffer_of taken buffer = buffer
 buffer_of (refused n) buffer = buffer
 buffer_of silent buffer = buffer
-buffer_of (answered k bytes) buffer = bytes ++ drop (length bytes) buffer
+buffer_of (answered channel bytes) buffer = in_front bytes buffer
 
--- a panel that was just set up under a supply: nothing is heard yet
-pub record Begun {X : Type 0} (p : Panel X) (supply : ℕ) : Type 0 where
-  pub supplied : p.supply ≡ Some supply
-  pub holds : Holds p.receiver []
+-- the bytes of a record
+abbrev pub record_bytes : ℕ
+record_bytes = 80
 
--- what a look at a channel answers: 101 where there is none, then 102 where the buffer has under 80 bytes
+-- what a look at a channel answers: 101 where there is none, then 102 where the buffer is shorter than a record
 abbrev pub look_record : List ℕ → Option Record → results.Result (Unit {0}) ℕ
-look_record buffer (Some r) = cond (nat_lt (length buffer) 80) (Err 102) (Ok tt)
+look_record buffer (Some r) = if nat_lt (length buffer) record_bytes then Err 102 else Ok tt
 look_record buffer None = Err 101
 
 -- the buffer after it: the bytes of the record in its front
 abbrev pub look_buffer : List ℕ → Option Record → List ℕ
-look_buffer buffer (Some r) = cond (nat_lt (length buffer) 80) buffer (encoded r ++ drop 80 buffer)
+look_buffer buffer (Some r) = if nat_lt (length buffer) record_bytes then buffer else in_front (encoded r) buffer
 look_buffer buffer None = buffer

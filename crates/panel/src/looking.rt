@@ -1,6 +1,8 @@
-ghost use Rattle.std.specs.Prelude.{◌≡◌, slice_get};
+//! Looks at a channel's record.
+
+ghost use Rattle.std.specs.Prelude.{◌≡◌};
 ghost use Rattle.refusals.specs.Refusals.{numbered};
-ghost use Rattle.panel.specs.Panels.{channels_in, look_record, look_buffer};
+ghost use Rattle.panel.specs.Panels.{channel_in, look_record, look_buffer};
 
 use crate::state::Panel;
 use rack::Rack;
@@ -9,13 +11,13 @@ use refusals::Refusal;
 use serving::record_of;
 
 impl<R: Rack> Panel<R> {
-    // Fills the front of `out` with the 80 bytes of a channel's record: 101 where there is no such channel, then 102 where `out`
-    // has under 80 bytes. Bytes past them stay, and nothing else changes.
+    /// Fills the front of `out` with the 80 bytes of a channel's record: 101 where there is no such channel, then 102 where `out`
+    /// has under 80 bytes. Bytes past them stay, and nothing else changes.
     pub fn look(&self, channel: u8, out: &mut [u8]) -> Result<(), Refusal>
-        ensures answer { numbered result ≡ look_record out.old (slice_get (channels_in R.Rack.records self.now) channel) }
-        ensures buffer { out.new ≡ look_buffer out.old (slice_get (channels_in R.Rack.records self.now) channel) }
+        ensures answer { numbered result ≡ look_record out.old (channel_in self.now channel) }
+        ensures buffer { out.new ≡ look_buffer out.old (channel_in self.now channel) }
     {
-        if !self.is_set_up() {
+        if self.supply.is_none() {
             return Err(Refusal::NoChannel);
         }
         let record = record_of(&self.rack, channel).ok_or(Refusal::NoChannel)?;

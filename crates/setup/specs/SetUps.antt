@@ -9,6 +9,7 @@ use Rattle.record.specs.declared.Fields.{Fields}
 use Rattle.record.specs.declared.Record.{Record}
 use Rattle.refusals.specs.Refusals.{number_of}
 use Rattle.refusals.specs.declared.Refusal.{Refusal}
+use Rattle.runs.specs.SetUps.{largest_supply, most_channels}
 
 -- The identity of a channel is its device type and its identification number.
 abbrev pub same_identity? : Fields → Fields → Bool
@@ -38,14 +39,6 @@ same_identity_later? records channel = record_among? (drop (channel + 1) records
 abbrev pub any_same_identity? : List Record → Bool
 any_same_identity? [] = false
 any_same_identity? (r ∷ records) = among? r.fields records || any_same_identity? records
-
--- the largest supply that a header gives, in mL/min
-abbrev pub largest_supply : ℕ
-largest_supply = 15000000
-
--- the most channels of a panel
-abbrev pub most_channels : ℕ
-most_channels = 15
 
 -- whether the channels are not too many and their shares fit
 abbrev pub shares_fit? : ℕ → List Record → Bool

@@ -1,5 +1,5 @@
 use Rattle.std.proofs.Common.{◌≡◌, ◌-◌, ◌≤◌, ℕ, List, min, take, drop, arith, ap, subst, refl, Err, MatchResult, IsOkAnd, sym, ◌∙◌, rules, length}
-use Rattle.calls.specs.declared.Outcome.TheVariants.{Taken}
+use Rattle.calls.specs.declared.Response.TheVariants.{Taken}
 use native.Mathlib.Nat.{sub-zero}
 use Rattle.std.proofs.Math.Nat.{min-le_right}
 use Rattle.std.proofs.lemmas.List.{length-take-le, take-append-drop}
@@ -15,7 +15,7 @@ use Rattle.panel.proofs.driving.perform.Goals.{in-Character, in-Sample, in-Key}
 pub returns : goal.returns
 returns g c =
     let cases : MatchResult c.match-call.result (λ u. IsOkAnd c.map.result (λ v. v ≡ Taken)) (λ e. c.map.result ≡ Err e) = search rules in
-    let done = performed g.R.Rack.records c.args.panel.now c.match-call.panel g.D.Driver.hears c.args.driver.now c.hear.new.self c.args.buffer.now c.args.call c.match-call.result c.map.result c.match-call.call (within (length c.args.buffer.now) (call_of c.args.call)) in
+    let done = performed {D = g.D.Driver} c.args.panel.now c.match-call.panel c.args.driver.now c.hear.new.self c.args.buffer.now c.args.call c.match-call.result c.map.result c.match-call.call (within (length c.args.buffer.now) (call_of c.args.call)) in
     elim c.match-call.branch [
       | in-Character w ↦ done (w.call-is ∙ sym w.in-Character.is) (rw w.in-Character.is refl) cases c.hear.ensures (rw (w.panel-is, w.result-is, w.in-Character.is) w.character-result.ensures.does)
       | in-Sample w ↦ done (w.call-is ∙ sym w.in-Sample.is) (rw w.in-Sample.is refl) cases c.hear.ensures (rw (w.panel-is, w.result-is, w.in-Sample.is) w.sample-result.ensures.does)
@@ -33,7 +33,7 @@ returns-in-Gap g c =
     let made = c.end.ensures in
     record {
       result = made.result;
-      does = subst (λ (k : Call flow_channel). Does g.R.Rack.records c.args.panel.now c.end.new.panel k made.result) same made.does;
+      does = subst (λ (k : Call flow_channel). Does c.args.panel.now c.end.new.panel k made.result) same made.does;
       heard = subst (λ (k : Call flow_channel). g.D.Driver.hears c.args.driver.now c.end.new.driver (k ▸ made.result)) same made.heard;
       left = extended made.result front c.end.new.out (drop least buffer) made.left c.end.auto.out ∙ ap (buffer_of made.result) (take-append-drop least buffer);
     }

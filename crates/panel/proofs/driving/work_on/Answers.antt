@@ -8,7 +8,7 @@ use Rattle.panel.proofs.Working.{goes_on, buffer_more}
 use Rattle.panel.proofs.driving.work_on.Goals as goal
 
 pub loop-init : goal.loop-init
-loop-init g c = ([], begins, omega arith, refl, λ supply before earlier u. subst (λ (h : Trace flow_channel). Underway g.R.Rack.records supply before h c.args.panel.now) (sym (append-nil earlier)) u, none)
+loop-init g c = ([], begins, omega arith, refl, λ supply before earlier u. subst (λ (h : Trace flow_channel). Underway supply before h c.args.panel.now) (sym (append-nil earlier)) u, none)
 
 pub loop-preserved : goal.loop-preserved
 loop-preserved g c =
@@ -20,7 +20,7 @@ loop-preserved g c =
       goes l.1 c.in-Some.ensures made.heard,
       omega (arith, length-append l.0 (event ∷ [])),
       made.left ∙ (ap (buffer_of made.result) l.3 ∙ sym (buffer_more l.0 event c.args.buffer.now)),
-      λ supply before earlier u. subst (λ (h : Trace flow_channel). Underway g.R.Rack.records supply before h c.perform.new.panel) (append_assoc earlier l.0 (event ∷ [])) (goes_on g.R.Rack.records supply before (earlier ++ l.0) named made (l.4 supply before earlier u)),
+      λ supply before earlier u. subst (λ (h : Trace flow_channel). Underway supply before h c.perform.new.panel) (append_assoc earlier l.0 (event ∷ [])) (goes_on made.does supply before (earlier ++ l.0) (l.4 supply before earlier u)),
       more l.5 made.does,
     )
 
