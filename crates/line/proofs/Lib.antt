@@ -1,3 +1,3 @@
-pub mod Setpoints
-pub mod Lengths
-pub mod Responses
+pub mod Turns
+pub mod Soundness
+pub mod Answering

@@ -1,11 +1,13 @@
+pub mod Marks
 pub mod Characters
 pub mod Whole
+pub mod Commands
 pub mod Requests
 pub mod Addressing
-pub mod Commands
-pub mod Effects
+pub mod Edits
+pub mod Allotments
 pub mod Codes
 pub mod Replies
+pub mod Judgements
 pub mod Answers
 pub mod Views
-pub mod Responses

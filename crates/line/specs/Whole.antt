@@ -1,21 +1,50 @@
 -- Whole and sound transmissions, and how damage is answered.
-use Rattle.std.specs.Prelude.{ℕ, ◌+◌, Bool, cond, ◌&&◌, None, Option, ◌==◌, nat_le}
+use Rattle.std.specs.Prelude.{◌≡◌, ℕ, ◌+◌, Bool, true, if◌then◌else◌, not, ◌&&◌, ◌↔◌, List, Some, None, Option, ◌==◌, nat_le}
+use Rattle.std.specs.List.{AllByRecursion}
 use Rattle.std.specs.Result.{result_ok}
 use Rattle.frame.specs.Check.{check_of}
 use Rattle.frame.specs.Frames.{Parts, request_frame}
+use Rattle.frame.specs.Transmissions.{Request, Transmits, span_of}
 use Rattle.record.specs.Bytes.{bit?}
-use Rattle.line.specs.Characters.{Reception}
+use Rattle.line.specs.Characters.{Character, Reception, Keeps, bytes_in, from_start, marked?, least_preambles}
 
 -- the frame of a whole transmission: at least two preambles, then a request's frame and nothing more
 abbrev pub frame_of : Reception → Option Parts
-frame_of x = cond (nat_le 2 x.preambles) (result_ok (request_frame x.span)) None
+frame_of x = if nat_le least_preambles x.preambles then result_ok (request_frame x.span) else None
 
 -- a whole transmission is sound if no character from the start on is marked and its exclusive or is 0
 abbrev pub sound? : Reception → Bool
 sound? x = x.marks == 0 && check_of x.span == 0
 
+-- the bytes are a sound transmission of some request, and no character from the start on is marked
+pub record Sound (characters : List Character) : Type 0 where
+  pub request : Request
+  pub transmits : Transmits request (bytes_in characters)
+  pub unmarked : AllByRecursion (λ c. c.marks ≡ 0) (from_start characters)
+
+-- of a whole transmission of any characters that are kept so, the test tells exactly whether they are sound
+abbrev pub TellsSound : Reception → Bool → Type 0
+TellsSound x told =
+    (characters : List Character) (f : Parts) → Keeps x characters → frame_of x ≡ Some f → told ≡ true ↔ Sound characters
+
 -- The first status of a communication error: 128 and, each once, 64 for parity, 32 for overrun, 16 for framing, 8 for a wrong
 -- check.
+abbrev pub error_status_by : Bool → Bool → Bool → Bool → ℕ
+error_status_by parity overrun framing wrong_check =
+    128 + (if parity then 64 else 0) + (if overrun then 32 else 0) + (if framing then 16 else 0)
+    + (if wrong_check then 8 else 0)
+
+abbrev pub wrong_check? : List ℕ → Bool
+wrong_check? span = not (check_of span == 0)
+
 abbrev pub error_status : Reception → ℕ
 error_status x =
-    128 + cond (bit? x.marks 0) 64 0 + cond (bit? x.marks 1) 32 0 + cond (bit? x.marks 2) 16 0 + cond (check_of x.span == 0) 0 8
+    error_status_by (bit? x.marks 0) (bit? x.marks 1) (bit? x.marks 2) (wrong_check? x.span)
+
+-- Of any characters that are kept so: each mark is told exactly where some character from the start on has it, and the wrong
+-- check exactly where the exclusive or is not 0.
+abbrev pub TellsDamage : Reception → ℕ → Type 0
+TellsDamage x status =
+    (characters : List Character) → Keeps x characters →
+    status ≡ error_status_by (marked? 0 characters) (marked? 1 characters) (marked? 2 characters)
+    (wrong_check? (span_of (bytes_in characters)))

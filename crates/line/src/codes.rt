@@ -1,10 +1,12 @@
+//! Response codes.
+
 ghost use Rattle.std.specs.Prelude.{◌≡◌};
 ghost use Rattle.setpoint.specs.Refusals.{code_of};
 ghost use Rattle.line.specs.Codes.{code_number};
 
 use setpoint::SetpointRefusal;
 
-// Response codes of a reply, by the names of the protocol, with the numbers that stand in its first status byte.
+/// Response codes of a reply, by the names of the protocol, with the numbers that stand in its first status byte.
 #[derive(Clone, Copy, PartialEq, Eq, Debug)]
 pub enum ResponseCode {
     Success = 0,
@@ -18,6 +20,7 @@ pub enum ResponseCode {
 }
 
 impl ResponseCode {
+    /// The number that stands in a reply.
     pub fn number(self) -> u8
         ensures { result ≡ code_number self }
     {
@@ -25,7 +28,7 @@ impl ResponseCode {
     }
 }
 
-// As a rack's refusal is made of one: the two enums have other cases beside these, so there are two impls.
+/// As a rack's refusal is made of one: the two enums have other cases beside these, so there are two impls.
 impl From<SetpointRefusal> for ResponseCode {
     ghost from_gives = { λ e r. code_number r ≡ code_of e };
 
@@ -36,11 +39,4 @@ impl From<SetpointRefusal> for ResponseCode {
             SetpointRefusal::BelowZero => ResponseCode::TooSmall,
         }
     }
-}
-
-// What a setpoint is weighed by: the supply in mL/min, and the sum of the other channels' shares.
-#[derive(Clone, Copy)]
-pub struct Header {
-    pub supply: u32,
-    pub others: u64,
 }

@@ -1,39 +1,110 @@
-// The commands that a channel knows, by their numbers.
-pub const READ_UNIQUE_IDENTIFIER: u8 = 0;
+//! The commands that a channel knows.
 
-pub const READ_PRIMARY_VARIABLE: u8 = 1;
+ghost use Rattle.std.specs.Prelude.{◌≡◌};
+ghost use Rattle.std.specs.Result.{result_ok};
+ghost use Rattle.line.specs.Commands.{number_of, count_of, writes?, counted?, command_of};
 
-pub const WRITE_POLLING_ADDRESS: u8 = 6;
+use record::{LABELS, MESSAGE};
+use std::error::Error;
+use std::fmt;
 
-pub const READ_UNIQUE_IDENTIFIER_BY_TAG: u8 = 11;
+/// A command that a channel knows, by its name in the protocol.
+#[derive(Clone, Copy, PartialEq, Eq, Debug)]
+pub enum Command {
+    ReadUniqueIdentifier = 0,
+    ReadPrimaryVariable = 1,
+    WritePollingAddress = 6,
+    ReadUniqueIdentifierByTag = 11,
+    ReadMessage = 12,
+    ReadTagDescriptorDate = 13,
+    ReadAssemblyNumber = 16,
+    WriteMessage = 17,
+    WriteTagDescriptorDate = 18,
+    WriteAssemblyNumber = 19,
+    ResetConfigurationChanged = 38,
+    WritePreambles = 59,
+    ReadSetpoint = 235,
+    WriteSetpoint = 236,
+}
 
-pub const READ_MESSAGE: u8 = 12;
+impl Command {
+    /// The number that stands for it in a frame.
+    pub fn number(self) -> u8
+        ensures { result ≡ number_of self }
+    {
+        self as u8
+    }
 
-pub const READ_TAG_DESCRIPTOR_DATE: u8 = 13;
+    /// How many data bytes it asks for, if it writes. One that reads takes whatever data come with it.
+    pub fn count(self) -> Option<usize>
+        ensures { result ≡ count_of self }
+    {
+        match self {
+            Command::ResetConfigurationChanged => Some(0),
+            Command::WritePollingAddress | Command::WritePreambles => Some(1),
+            Command::WriteAssemblyNumber => Some(3),
+            Command::WriteSetpoint => Some(5),
+            Command::WriteTagDescriptorDate => Some(LABELS.len()),
+            Command::WriteMessage => Some(MESSAGE.len()),
+            Command::ReadUniqueIdentifier
+            | Command::ReadPrimaryVariable
+            | Command::ReadUniqueIdentifierByTag
+            | Command::ReadMessage
+            | Command::ReadTagDescriptorDate
+            | Command::ReadAssemblyNumber
+            | Command::ReadSetpoint => None,
+        }
+    }
 
-pub const READ_ASSEMBLY_NUMBER: u8 = 16;
+    /// Whether data have the count that it asks for.
+    pub fn takes(self, data: &[u8]) -> bool
+        ensures { result ≡ counted? self «data».now }
+    {
+        self.count().is_none_or(|count| data.len() == count)
+    }
 
-pub const WRITE_MESSAGE: u8 = 17;
+    /// Whether it writes, under the key.
+    pub fn writes(self) -> bool
+        ensures { result ≡ writes? self }
+    {
+        self.count().is_some()
+    }
+}
 
-pub const WRITE_TAG_DESCRIPTOR_DATE: u8 = 18;
+/// A number of no command that a channel knows.
+#[derive(Clone, Copy, PartialEq, Eq, Debug)]
+pub struct UnknownCommand;
 
-pub const WRITE_ASSEMBLY_NUMBER: u8 = 19;
+impl TryFrom<u8> for Command {
+    type Error = UnknownCommand;
 
-pub const RESET_CONFIGURATION_CHANGED: u8 = 38;
+    ghost try_from_gives = { λ number r. result_ok r ≡ command_of number };
 
-pub const WRITE_PREAMBLES: u8 = 59;
+    fn try_from(number: u8) -> Result<Command, UnknownCommand> {
+        match number {
+            0 => Ok(Command::ReadUniqueIdentifier),
+            1 => Ok(Command::ReadPrimaryVariable),
+            6 => Ok(Command::WritePollingAddress),
+            11 => Ok(Command::ReadUniqueIdentifierByTag),
+            12 => Ok(Command::ReadMessage),
+            13 => Ok(Command::ReadTagDescriptorDate),
+            16 => Ok(Command::ReadAssemblyNumber),
+            17 => Ok(Command::WriteMessage),
+            18 => Ok(Command::WriteTagDescriptorDate),
+            19 => Ok(Command::WriteAssemblyNumber),
+            38 => Ok(Command::ResetConfigurationChanged),
+            59 => Ok(Command::WritePreambles),
+            235 => Ok(Command::ReadSetpoint),
+            236 => Ok(Command::WriteSetpoint),
+            _ => Err(UnknownCommand),
+        }
+    }
+}
 
-pub const READ_SETPOINT: u8 = 235;
+impl fmt::Display for UnknownCommand {
+    fn fmt<W: fmt::Write>(&self, f: &mut fmt::Formatter<W>) -> fmt::Result {
+        f.write_str("unknown command")
+    }
+}
 
-pub const WRITE_SETPOINT: u8 = 236;
-
-// The unit code of percent.
-pub const PERCENT: u8 = 0x39;
-
-// A tag has six packed bytes, the first of a channel's text.
-pub const TAG_LENGTH: usize = 6;
-
-// Tag, descriptor and date end in the text where the message begins.
-pub const MESSAGE_AT: usize = 21;
-
-pub const MESSAGE_LENGTH: usize = 24;
+impl Error for UnknownCommand {}

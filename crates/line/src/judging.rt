@@ -1,77 +1,89 @@
-ghost use Rattle.std.specs.Prelude.{◌≡◌, ◌+◌, not, length, if◌then◌else◌};
+//! How a channel judges a transmission that means it.
+
+ghost use Rattle.std.specs.Prelude.{◌≡◌, length, ◌^◌, ◌<◌};
 ghost use Rattle.setpoint.specs.Refusals.{admitted_under};
 ghost use Rattle.setpoint.specs.Value.{value_of};
 ghost use Rattle.record.specs.Bytes.{number32};
-ghost use Rattle.header.specs.Shares.{fits?};
-ghost use Rattle.line.specs.Codes.{code_number, code_of, weighed};
+ghost use Rattle.frame.specs.Views.{frame_parts};
+ghost use Rattle.line.specs.Codes.{code_of, given?, weighed, FirstGiven};
+ghost use Rattle.line.specs.Judgements.{judgement, Writable};
+ghost use Rattle.line.specs.Views.{judged, reception};
 
-use crate::codes::{Header, ResponseCode};
-use crate::commands::*;
-use record::{Fields, MAX_POLLING_ADDRESS, MAX_PREAMBLES, MIN_PREAMBLES, Record};
+use crate::accepted::AcceptedCommand;
+use crate::allotting::Allotting;
+use crate::codes::ResponseCode;
+use crate::commands::Command;
+use crate::judgements::Judgement;
+use crate::reception::Received;
+use frame::Frame;
+use record::{Fields, MAX_POLLING_ADDRESS, MAX_PREAMBLES, MIN_PREAMBLES};
 
-// The response code of a sound request to a channel, by one `match`: of each command the arms stand in the order in which codes are
-// tried, and a command that no arm names is not implemented. Of command and data, and not of a frame, whose address and check have
-// no part in it.
-pub fn response_code(command: u8, data: &[u8], record: &Record, header: Header) -> ResponseCode
-    ensures { code_number result ≡ code_of command «data».now «record».now header }
+/// The unit code of percent.
+pub(crate) const PERCENT: u8 = 0x39;
+
+/// Judges a whole transmission that means a channel with these fields: once, and nothing is written here.
+pub fn judge<'a, A: Allotting>(
+    received: Received<'_>,
+    frame: Frame<'a>,
+    fields: Fields,
+    allotting: &A,
+) -> Judgement<'a>
+    ensures value { judged result
+        ≡ judgement (reception received.entry) (frame_parts frame.entry) fields (A.Allotting.allotment allotting.now) }
+    ensures writable { Writable (judged result) fields }
 {
-    let count = data.len();
+    if !received.is_sound() {
+        return Judgement::CommunicationError(received.error_status());
+    }
+    let command = Command::try_from(frame.command).ok();
+    let code = response_code(command, frame.data, fields, allotting);
     match command {
-        READ_UNIQUE_IDENTIFIER
-        | READ_PRIMARY_VARIABLE
-        | READ_UNIQUE_IDENTIFIER_BY_TAG
-        | READ_MESSAGE
-        | READ_TAG_DESCRIPTOR_DATE
-        | READ_ASSEMBLY_NUMBER
-        | READ_SETPOINT => ResponseCode::Success,
-        WRITE_POLLING_ADDRESS if count != 1 => ResponseCode::ByteCount,
-        WRITE_MESSAGE if count != MESSAGE_LENGTH => ResponseCode::ByteCount,
-        WRITE_TAG_DESCRIPTOR_DATE if count != MESSAGE_AT => ResponseCode::ByteCount,
-        WRITE_ASSEMBLY_NUMBER if count != 3 => ResponseCode::ByteCount,
-        RESET_CONFIGURATION_CHANGED if count != 0 => ResponseCode::ByteCount,
-        WRITE_PREAMBLES if count != 1 => ResponseCode::ByteCount,
-        WRITE_SETPOINT if count != 5 => ResponseCode::ByteCount,
-        WRITE_POLLING_ADDRESS
-        | WRITE_MESSAGE
-        | WRITE_TAG_DESCRIPTOR_DATE
-        | WRITE_ASSEMBLY_NUMBER
-        | RESET_CONFIGURATION_CHANGED
-        | WRITE_PREAMBLES
-        | WRITE_SETPOINT
-            if !record.fields.key_open => { ResponseCode::WriteProtected }
-        WRITE_POLLING_ADDRESS if data[0] > MAX_POLLING_ADDRESS => ResponseCode::InvalidSelection,
-        WRITE_PREAMBLES if data[0] < MIN_PREAMBLES => ResponseCode::TooSmall,
-        WRITE_PREAMBLES if data[0] > MAX_PREAMBLES => ResponseCode::TooLarge,
-        WRITE_SETPOINT if data[0] != PERCENT => ResponseCode::InvalidSelection,
-        WRITE_SETPOINT => setpoint_code(data, record.fields, header),
-        WRITE_POLLING_ADDRESS
-        | WRITE_MESSAGE
-        | WRITE_TAG_DESCRIPTOR_DATE
-        | WRITE_ASSEMBLY_NUMBER
-        | RESET_CONFIGURATION_CHANGED
-        | WRITE_PREAMBLES => ResponseCode::Success,
-        _ => ResponseCode::NotImplemented,
+        Some(command) if code == ResponseCode::Success => Judgement::Accepted(AcceptedCommand {
+            command,
+            data: frame.data,
+        }),
+        _ => Judgement::Refused(code),
     }
 }
 
-// The code of a setpoint in percent, behind its unit code: as the rack refuses, then as its share is weighed.
-fn setpoint_code(data: &[u8], fields: Fields, header: Header) -> ResponseCode
+/// The response code of a sound request to a channel, by one `match`: its arms stand in the order in which codes are tried.
+/// Of command and data, and not of a frame, whose address and check have no part in it.
+pub fn response_code<A: Allotting>(
+    command: Option<Command>,
+    data: &[u8],
+    fields: Fields,
+    allotting: &A,
+) -> ResponseCode
+    ensures value { result ≡ code_of command «data».now fields (A.Allotting.allotment allotting.now) }
+    ensures first { FirstGiven (given? command «data».now fields (A.Allotting.allotment allotting.now)) result }
+{
+    match command {
+        None => ResponseCode::NotImplemented,
+        Some(command) if !command.takes(data) => ResponseCode::ByteCount,
+        Some(command) if command.writes() && !fields.key_open => ResponseCode::WriteProtected,
+        Some(Command::WritePollingAddress) if data[0] > MAX_POLLING_ADDRESS => {
+            ResponseCode::InvalidSelection
+        }
+        Some(Command::WritePreambles) if data[0] < MIN_PREAMBLES => ResponseCode::TooSmall,
+        Some(Command::WritePreambles) if data[0] > MAX_PREAMBLES => ResponseCode::TooLarge,
+        Some(Command::WriteSetpoint) if data[0] != PERCENT => ResponseCode::InvalidSelection,
+        Some(Command::WriteSetpoint) => setpoint_code(data, fields, allotting),
+        Some(_) => ResponseCode::Success,
+    }
+}
+
+/// The code of a setpoint in percent, behind its unit code: as the rack refuses, then as its share is weighed.
+fn setpoint_code<A: Allotting>(data: &[u8], fields: Fields, allotting: &A) -> ResponseCode
     requires { length «data».now ≡ 5 }
-    ensures { code_number result ≡ weighed header fields.full_scale (admitted_under fields.ceiling (value_of (number32 «data».now 1))) }
+    ensures { result
+        ≡ weighed (A.Allotting.allotment allotting.now) fields.full_scale
+        (admitted_under fields.ceiling (value_of (number32 «data».now 1))) }
 {
     let pattern = u32::from_be_bytes([data[1], data[2], data[3], data[4]]);
     match setpoint::admitted(pattern, fields.ceiling) {
-        Ok(load) => share_code(setpoint::share(load, fields.full_scale), header),
         Err(refusal) => refusal.into(),
-    }
-}
-
-// Whether a share, in the place of the channel's old one, fits beside the others'.
-fn share_code(share: u64, header: Header) -> ResponseCode
-    ensures { code_number result ≡ (if fits? header.supply (header.others + share) then 0 else 16) }
-{
-    match header.others.checked_add(share) {
-        Some(total) if header::fits(header.supply, total) => ResponseCode::Success,
-        _ => ResponseCode::AccessRestricted,
+        Ok(load) if allotting.fits(setpoint::share(load, fields.full_scale)) =>
+            ResponseCode::Success,
+        Ok(_) => ResponseCode::AccessRestricted,
     }
 }

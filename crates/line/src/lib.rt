@@ -1,22 +1,29 @@
-// What a transmission means to one channel: whether it is meant, which code it gives, what it writes, which bytes answer.
+//! What a transmission means to one channel: whether it is meant, how it judges it, what it writes, which bytes answer.
 #![tactic(auto)]
 
+mod accepted;
 mod addressing;
+mod allotting;
+mod changes;
 mod codes;
 mod commands;
-mod effects;
+mod data;
+mod judgements;
 mod judging;
+mod marks;
 mod reception;
-mod replies;
+mod replying;
 mod requests;
-mod responding;
-mod writer;
 
+pub use accepted::AcceptedCommand;
 pub use addressing::{address_means, means, tag_means};
-pub use codes::{Header, ResponseCode};
-pub use commands::TAG_LENGTH;
-pub use effects::{change_of, flag_of};
-pub use judging::response_code;
+pub use allotting::{Allotting, Given};
+pub use changes::Changes;
+pub use codes::ResponseCode;
+pub use commands::{Command, UnknownCommand};
+pub use judgements::Judgement;
+pub use judging::{judge, response_code};
+pub use marks::Marks;
 pub use reception::Received;
+pub use replying::{LABELS_LENGTH, MAX_ANSWER, MESSAGE_LENGTH, ReplySource, reply};
 pub use requests::Request;
-pub use responding::{MAX_ANSWER, respond};

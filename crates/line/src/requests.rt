@@ -1,36 +1,49 @@
+//! What a request asks.
+
 ghost use Rattle.std.specs.Prelude.{◌≡◌};
 ghost use Rattle.line.specs.Requests.{asked_by};
 ghost use Rattle.line.specs.Views.{seen};
 
-use crate::commands::*;
+use crate::commands::Command;
+use record::TAG;
 
-// What a request asks; its bytes are parts of the received ones.
+/// What a request asks; its bytes are parts of the received ones.
 #[derive(Clone, Copy)]
 pub enum Request<'a> {
+    /// Which channel has this tag.
     TagQuestion(&'a [u8]),
-    TextWrite { command: u8, text: &'a [u8] },
-    NumberWrite { command: u8, number: &'a [u8] },
+    TextWrite { command: Command, text: &'a [u8] },
+    NumberWrite { command: Command, number: &'a [u8] },
+    /// Any other command, known or not, by its number.
     Bare(u8),
 }
 
 impl<'a> Request<'a> {
-    // The request of a command with its data.
-    pub fn of(command: u8, data: &'a [u8]) -> Request<'a>
-        ensures { seen result ≡ asked_by command «data».now }
+    /// The request of a command's number with its data, whatever their count.
+    pub fn of(number: u8, data: &'a [u8]) -> Request<'a>
+        ensures { seen result ≡ asked_by number «data».now }
     {
+        let Ok(command) = Command::try_from(number) else {
+            return Request::Bare(number);
+        };
         match command {
-            READ_UNIQUE_IDENTIFIER_BY_TAG if data.len() == TAG_LENGTH => Request::TagQuestion(data),
-            WRITE_MESSAGE | WRITE_TAG_DESCRIPTOR_DATE => Request::TextWrite {
-                command,
-                text: data,
-            },
-            WRITE_POLLING_ADDRESS | WRITE_ASSEMBLY_NUMBER | WRITE_PREAMBLES | WRITE_SETPOINT => {
-                Request::NumberWrite {
+            Command::ReadUniqueIdentifierByTag if data.len() == TAG.len() => Request::TagQuestion(
+                data,
+            ),
+            Command::WriteMessage | Command::WriteTagDescriptorDate => {
+                Request::TextWrite {
                     command,
-                    number: data,
+                    text: data,
                 }
             }
-            _ => Request::Bare(command),
+            Command::WritePollingAddress
+            | Command::WriteAssemblyNumber
+            | Command::WritePreambles
+            | Command::WriteSetpoint => Request::NumberWrite {
+                command,
+                number: data,
+            },
+            _ => Request::Bare(number),
         }
     }
 }
