@@ -1,9 +1,22 @@
 -- Bytes as capital hexadecimal text, two digits each, the high one first.
-use Rattle.std.specs.Prelude.{ℕ, Bool, ◌+◌, ◌-◌, ◌*◌, ◌/◌, ◌%◌, cond, ◌&&◌, List, [], ◌∷◌, Some, None, Option, is_some, nat_le, nat_lt, slice_index}
+use Rattle.std.specs.Prelude.{ℕ, Bool, ◌+◌, ◌-◌, ◌*◌, ◌/◌, ◌%◌, if◌then◌else◌, ◌&&◌, List, [], ◌∷◌, Some, None, Option, is_some, nat_le, nat_lt, slice_index}
+
+-- the characters of the digits
+abbrev pub digit_0 : ℕ
+digit_0 = 48
+
+abbrev pub digit_9 : ℕ
+digit_9 = 57
+
+abbrev pub digit_A : ℕ
+digit_A = 65
+
+abbrev pub digit_F : ℕ
+digit_F = 70
 
 -- the digit of a number below 16: '0' to '9' and then 'A' to 'F'
 abbrev pub digit_of : ℕ → ℕ
-digit_of n = cond (nat_lt n 10) (48 + n) (55 + n)
+digit_of n = if nat_lt n 10 then digit_0 + n else digit_A + (n - 10)
 
 abbrev pub hex_of : List ℕ → List ℕ
 hex_of [] = []
@@ -11,7 +24,10 @@ hex_of (b ∷ bytes) = digit_of (b / 16) ∷ digit_of (b % 16) ∷ hex_of bytes
 
 -- the number of a digit, if it is one
 abbrev pub value_of : ℕ → Option ℕ
-value_of c = cond (nat_le 48 c && nat_le c 57) (Some (c - 48)) (cond (nat_le 65 c && nat_le c 70) (Some (c - 55)) None)
+value_of c =
+    if nat_le digit_0 c && nat_le c digit_9 then Some (c - digit_0)
+    else if nat_le digit_A c && nat_le c digit_F then Some (c - digit_A + 10)
+    else None
 
 -- the byte of two digits, if they are
 abbrev pub paired : Option ℕ → Option ℕ → Option ℕ

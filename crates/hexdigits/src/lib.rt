@@ -1,7 +1,7 @@
-// Bytes as capital hexadecimal text.
+//! Bytes as capital hexadecimal text.
 #![tactic(auto)]
 
-ghost use Rattle.std.specs.Prelude.{◌≡◌, ◌*◌, ◌<◌, ◌≤◌, ◌++◌, take, length, IfSome, IfOk, OnOk, Some, string_bytes};
+ghost use Rattle.std.specs.Prelude.{◌≡◌, ◌*◌, ◌<◌, ◌≤◌, [], ◌++◌, take, length, if◌then◌else◌, is_ok, IfSome, IfOk, OnOk, Some, string_bytes};
 ghost use Rattle.std.specs.List.{list_all};
 ghost use Rattle.hexdigits.specs.declared.HexFault.TheVariants.{Memory};
 ghost use Rattle.hexdigits.specs.Hex.{digit_of, hex_of, value_of, byte_of, pair?, bytes_of};
@@ -16,10 +16,10 @@ const PART_LENGTH: usize = 64;
 
 const PART_DIGITS: usize = 2 * PART_LENGTH;
 
-// Why no bytes were read.
+/// Why no bytes were read.
 #[derive(Clone, Copy, PartialEq, Eq, Debug)]
 pub enum HexFault {
-    // Not two capital digits for each byte.
+    /// Not two capital digits for each byte.
     NotHex,
     Memory,
 }
@@ -45,7 +45,7 @@ impl<T: Drop> From<AllocFailed<T>> for HexFault {
     }
 }
 
-// Bytes, printed as two digits each.
+/// Bytes, printed as two digits each.
 #[derive(Clone, Copy)]
 pub struct Hex<'a>(pub &'a [u8]);
 
@@ -81,14 +81,14 @@ fn value(c: u8) -> Option<u8>
     }
 }
 
-// The byte of two digits, if they are.
+/// The byte of two digits, if they are.
 pub fn byte(high: u8, low: u8) -> Option<u8>
     ensures { result ≡ byte_of high low }
 {
     Some(value(high)? * 16 + value(low)?)
 }
 
-// The digits of `bytes`, which read back to them.
+/// The digits of `bytes`, which read back to them.
 pub fn to_hex(heap: Global, bytes: &[u8]) -> Result<String, AllocError>
     ensures text { IfOk result (λ text. string_bytes text ≡ hex_of bytes.now) }
     ensures back { bytes_of (hex_of bytes.now) ≡ Some bytes.now }
@@ -96,8 +96,22 @@ pub fn to_hex(heap: Global, bytes: &[u8]) -> Result<String, AllocError>
     format!(in heap; "{}", Hex(bytes))
 }
 
-// Appends the digits of `bytes`; where memory is short, some of them. By parts: for room is asked once for each, not for each digit.
+/// Appends the digits of `bytes`; where memory is short, the text is as it was.
 pub fn push_hex(text: &mut Vec<u8>, bytes: &[u8]) -> Result<(), AllocError>
+    ensures text { text.new.items ≡ text.old.items ++ (if is_ok result then hex_of bytes.now else []) }
+    ensures front { take (length text.old.items) text.new.items ≡ text.old.items }
+{
+    let length = text.len();
+    let pushed = push_parts(text, bytes);
+    if pushed.is_err() {
+        text.truncate(length);
+    }
+    pushed
+}
+
+// Appends the digits of `bytes`; where memory is short, some of them. By parts: for room is asked once for each, not for each
+// digit.
+fn push_parts(text: &mut Vec<u8>, bytes: &[u8]) -> Result<(), AllocError>
     ensures text { OnOk result (text.new.items ≡ text.old.items ++ hex_of bytes.now) }
     ensures front { take (length text.old.items) text.new.items ≡ text.old.items }
 {
@@ -129,7 +143,7 @@ fn all_bytes(pairs: &[[u8; 2]]) -> bool
     pairs.iter().all(|pair| byte(pair[0], pair[1]).is_some())
 }
 
-// Reads the bytes of a hexadecimal text. All of it is judged before memory is asked for.
+/// Reads the bytes of a hexadecimal text. All of it is judged before memory is asked for.
 pub fn parse_hex(heap: Global, text: &[u8]) -> Result<Vec<u8>, HexFault>
     ensures { Reads (bytes_of text.now) result }
 {
@@ -151,6 +165,7 @@ pub fn parse_hex(heap: Global, text: &[u8]) -> Result<Vec<u8>, HexFault>
 #[cfg(test)]
 mod tests {
     use super::*;
+    use std::fmt::Write;
     use std::test::Fail;
 
     #[test]
@@ -167,5 +182,21 @@ mod tests {
         assert!(rt; matches!(parse_hex(rt.alloc(), b"A5F"), Err(HexFault::NotHex)));
         assert!(rt; matches!(parse_hex(rt.alloc(), b"a5"), Err(HexFault::NotHex)));
         assert_eq!(rt; byte(b'4', b'G'), None);
+    }
+
+    // A writer that has no room.
+    #[derive(Drop)]
+    struct Full;
+
+    impl fmt::Write for Full {
+        fn write_str(&mut self, _: &str) -> fmt::Result {
+            Err(fmt::Error)
+        }
+    }
+
+    #[test]
+    fn a_writer_that_fails(rt: HostRuntime) {
+        assert!(rt; write!(Full, "{}", HexFault::NotHex).is_err());
+        assert!(rt; write!(Full, "{}", Hex(&[0xA5])).is_err());
     }
 }

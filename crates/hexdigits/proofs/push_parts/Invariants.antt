@@ -1,6 +1,6 @@
 use Rattle.std.proofs.Common.{◌≡◌, ◌++◌, take, length}
 use Rattle.hexdigits.specs.Hex.{hex_of}
-use Rattle.hexdigits.proofs.push_hex.Given as goal
+use Rattle.hexdigits.proofs.push_parts.Given as goal
 
 abbrev pub invariant-loop-rest : goal.invariant-loop-rest
 invariant-loop-rest l =

@@ -2,7 +2,7 @@ use Rattle.std.proofs.Common.{◌≡◌, ℕ, List, ◌++◌, length, take, sym,
 use Rattle.std.proofs.lemmas.List.{length-take, take-append-le, take-append-drop}
 use Rattle.hexdigits.specs.Hex.{hex_of}
 use Rattle.hexdigits.proofs.Reading.{hex_parts}
-use Rattle.hexdigits.proofs.push_hex.Goals as goal
+use Rattle.hexdigits.proofs.push_parts.Goals as goal
 
 -- a part more: its digits stand behind the text, before those of the rest
 more : (text front back rest all : List ℕ) → front ++ back ≡ rest → text ++ hex_of rest ≡ all → (text ++ hex_of front) ++ hex_of back ≡ all
