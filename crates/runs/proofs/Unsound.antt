@@ -1,18 +1,19 @@
 -- A sound transmission with one character damaged is not sound, also where the damage moves the start.
-use Rattle.std.proofs.Common.{◌≡◌, ℕ, zero, suc, ◌<◌, ◌≤◌, true, eqb, leb, ◌⊎◌, List, [], ◌∷◌, map, length, get_or, drop, set, Some, Ok, Err, fold, Result, sym, refl, ap, ◌∙◌, subst, inl, inr, le_of_suc-le-suc, add_comm, add-one, arith}
-use lib.Bits.{bit_xor, bit_or, xor_comm, xor_assoc, xor_self, xor_zero_l, xor_zero_r, or_add_and, and_le_l, and_le_r}
+use Rattle.std.proofs.Common.{◌≡◌, ℕ, zero, suc, ◌<◌, ◌≤◌, true, ◌⊎◌, List, [], ◌∷◌, length, get_or, drop, set, Some, fold, sym, refl, ap, ◌∙◌, subst, inl, inr, le_of_suc-le-suc, add_comm, add-one, arith}
+use lib.Bits.{bit_xor, xor_comm, xor_assoc, xor_self, xor_zero_l, xor_zero_r}
 use lib.ListN.{length-map}
-use Rattle.std.specs.Result.{result_ok}
 use Rattle.std.specs.List.{AllByRecursion}
-use Rattle.std.proofs.lemmas.List.{map-set, set-get_or, drop-map}
-use Rattle.std.proofs.lemmas.Bool.{cases_eq, cases_Bool, ne_eqb, and_parts, eqb-true, leb-true}
+use Rattle.std.proofs.lemmas.List.{map-set, set-get_or}
+use Rattle.std.proofs.lemmas.Bool.{cases_eq, ne_eqb}
 use Rattle.frame.specs.Check.{check_of}
-use Rattle.frame.specs.Frames.{Parts, RequestFrame, request_frame}
+use Rattle.frame.specs.Frames.{Parts, RequestFrame}
 use Rattle.frame.specs.Transmissions.{preambles_of, span_of, parts_with}
-use Rattle.frame.proofs.Frames.{read_request_lem, framed_start}
-use Rattle.frame.proofs.Transmissions.{led, span_sent}
-use Rattle.line.specs.Characters.{Character, bytes_in, received}
+use Rattle.frame.proofs.Frames.{framed_start}
+use Rattle.frame.proofs.Transmissions.{span_sent}
+use Rattle.line.specs.Characters.{Character, Keeps, bytes_in, received}
 use Rattle.line.specs.Whole.{sound?, Sound}
+use Rattle.line.proofs.Soundness as soundness
+use Rattle.line.proofs.Soundness.{tells_sound}
 use Rattle.runs.specs.Channel.{frame_in}
 use Rattle.runs.specs.Damage.{Damaged}
 
@@ -113,39 +114,13 @@ unsound t d s =
       | inr n ↦ n (shows (bytes_in o) i c.byte (let l = d.within in omega (arith, length-map o (λ c. c.byte))) (good o d.sound) (rw (map-set (λ c. c.byte) o i c) at (good (set o i c) k)))
     ]
 
--- the tests of a transmission say that it is sound
-none_marked : (n : ℕ) (ms : List ℕ) → fold bit_or n ms ≡ 0 → (n ≡ 0) × AllByRecursion (λ m. m ≡ 0) ms
-none_marked n [] e = (e, tt)
-none_marked n (m ∷ ms) e =
-    let p = none_marked (bit_or n m) ms e in
-    let a = or_add_and n m in
-    let b = and_le_l n m in
-    let c = and_le_r n m in
-    let z = p.0 in
-    (omega arith, (omega arith, p.1))
-
-all_map : {X Y : Type 0} (f : X → Y) (P : Y → Type 0) (xs : List X) → AllByRecursion P (map f xs) → AllByRecursion (λ x. P (f x)) xs
-all_map f P [] a = tt
-all_map f P (x ∷ xs) a = (a.0, all_map f P xs a.1)
-
-ok_part : (r : Result Parts ℕ) (f : Parts) → result_ok r ≡ Some f → r ≡ Ok f
-ok_part (Ok x) f e = cc
-ok_part (Err n) f e = let z : ◌≡◌ {A = ℕ} 0 1 = cc in absurd (omega arith)
+-- what is kept of characters
+kept : (t : List Character) → Keeps (received t) t
+kept t = record { preambles = refl; span = refl; marks = refl }
 
 pub whole_frame : (t : List Character) (f : Parts) → frame_in t ≡ Some f → (2 ≤ preambles_of (bytes_in t)) × RequestFrame (span_of (bytes_in t)) f
-whole_frame t f e = elim (cases_Bool (leb 2 (preambles_of (bytes_in t)))) [
-  | inl b ↦ (leb-true 2 (preambles_of (bytes_in t)) b, read_request_lem (span_of (bytes_in t)) f (ok_part (request_frame (span_of (bytes_in t))) f (rw b at e)))
-  | inr b ↦ let z : ◌≡◌ {A = ℕ} 0 1 = let h = rw b at e in cc in absurd (omega arith)
-]
+whole_frame t f e = soundness.whole_frame (received t) f e
 
+-- the tests of a whole transmission say that it is sound
 pub sound_of : (t : List Character) (f : Parts) → frame_in t ≡ Some f → sound? (received t) ≡ true → Sound t
-sound_of t f e s =
-    let bytes = bytes_in t in
-    let w = whole_frame t f e in
-    let p = and_parts (eqb (received t).marks 0) (eqb (check_of (span_of bytes)) 0) s in
-    let m = none_marked 0 (drop (preambles_of bytes) (map (λ c. c.marks) t)) (eqb-true (received t).marks 0 p.0) in
-    record {
-      request = record { preambles = preambles_of bytes; address = f.address; command = f.command; «data» = f.«data» };
-      transmits = record { span = span_of bytes; check = f.check; led = w.0; spelled = led bytes; framed = w.1; sound = eqb-true (check_of (span_of bytes)) 0 p.1 };
-      unmarked = all_map (λ c. c.marks) (λ m. m ≡ 0) (drop (preambles_of bytes) t) (rw (drop-map (λ c. c.marks) (preambles_of bytes) t) at m.1);
-    }
+sound_of t f e = (tells_sound (received t) t f (kept t) e).0
