@@ -4,6 +4,7 @@ use Rattle.std.specs.Cmp.Lexicographic.{pointwise}
 use Rattle.frame.specs.Frames.{Parts}
 use Rattle.record.specs.Bytes.{number24}
 use Rattle.record.specs.TextParts.{tag, part_of}
+use Rattle.record.specs.declared.Fields.{Fields}
 use Rattle.record.specs.declared.Record.{Record}
 use Rattle.line.specs.Commands.{number_of}
 use Rattle.line.specs.Requests.{Asked, tag_question, text_write, number_write, bare, asked_by}
@@ -17,8 +18,8 @@ manufacturer = 10
 abbrev pub short_means? : ℕ → ℕ → Bool
 short_means? first polling = first / 16 % 8 == 0 && first % 16 == polling
 
--- a long address, five bytes: bit 6 is 0 and the low six bits are the manufacturer; then device type and
--- identification number
+-- a long address, five bytes: bit 6 is 0 and the low six bits are the manufacturer; then device type
+-- and identification number
 abbrev pub long_means? : List ℕ → ℕ → ℕ → Bool
 long_means? address device identification =
     (slice_index address 0 % 128 == manufacturer)
@@ -26,20 +27,27 @@ long_means? address device identification =
 
 -- a long address that means every channel: 0 but for bit 7
 abbrev pub every_channel? : List ℕ → Bool
-every_channel? address = slice_index address 0 % 128 == 0 && slice_index address 1 == 0 && number24 address 2 == 0
+every_channel? address =
+    slice_index address 0 % 128 == 0 && slice_index address 1 == 0 && number24 address 2 == 0
 
--- whether an address means a channel with this polling address, device type and identification number
+-- whether an address means a channel with this polling address, device type and identification
+-- number
 abbrev pub address_means? : List ℕ → ℕ → ℕ → ℕ → Bool
 address_means? address polling device identification =
     if length address == 1 then short_means? (slice_index address 0) polling
-    else if length address == 5 then long_means? address device identification || every_channel? address
+    else if length address == 5
+    then long_means? address device identification || every_channel? address
     else false
+
+abbrev pub addresses? : List ℕ → Fields → Bool
+addresses? address fields =
+    address_means? address fields.polling_address fields.device_type fields.identification
 
 abbrev pub equal? : List ℕ → List ℕ → Bool
 equal? = pointwise nat_eq
 
--- A tag question means, of the addressed channels, only those with its tag; its command with another count is bare and
--- means none.
+-- A tag question means, of the addressed channels, only those with its tag; its command with another
+-- count is bare and means none.
 abbrev pub tag_means? : Asked → List ℕ → Bool
 tag_means? (tag_question bytes) own = equal? bytes own
 tag_means? (text_write command bytes) own = true
@@ -53,5 +61,4 @@ tag_of r = part_of tag r.text
 -- whether a request's frame, as received, means a channel
 abbrev pub means? : Parts → Record → Bool
 means? f r =
-    address_means? f.address r.fields.polling_address r.fields.device_type r.fields.identification
-    && tag_means? (asked_by f.command f.«data») (tag_of r)
+    addresses? f.address r.fields && tag_means? (asked_by f.command f.«data») (tag_of r)

@@ -4,7 +4,7 @@ use Rattle.std.specs.List.{list_any}
 use Rattle.frame.specs.Transmissions.{preambles_of, span_of}
 use Rattle.record.specs.Bytes.{bit?}
 
--- a character as the line delivers it: a byte, and the sum of its marks: 1 parity, 2 overrun, 4 framing
+-- a character as the line delivers it: a byte, and the sum of its marks, 1 parity, 2 overrun, 4 framing
 pub record Character : Type 0 where
   pub byte : ℕ
   pub marks : ℕ
@@ -16,8 +16,8 @@ bytes_in characters = map (λ c. c.byte) characters
 abbrev pub from_start : List Character → List Character
 from_start characters = drop (preambles_of (bytes_in characters)) characters
 
--- what is kept of a transmission: how many preambles, the bytes from the start on, and all marks from the start on together,
--- each once
+-- what is kept of a transmission: how many preambles, the bytes from the start on, and all marks from
+-- the start on together, each once
 pub record Reception : Type 0 where
   pub preambles : ℕ
   pub span : List ℕ
@@ -34,9 +34,14 @@ received characters = record {
 abbrev pub least_preambles : ℕ
 least_preambles = 2
 
--- These are the characters of which this was kept. Two preambles are as good as more, and may stand for them.
+-- a count of preambles as far as it matters
+abbrev pub enough : ℕ → ℕ
+enough count = min count least_preambles
+
+-- These are the characters of which this was kept. Two preambles are as good as more, and may stand for
+-- them.
 pub record Keeps (x : Reception) (characters : List Character) : Type 0 where
-  pub preambles : min x.preambles least_preambles ≡ min (preambles_of (bytes_in characters)) least_preambles
+  pub preambles : enough x.preambles ≡ enough (preambles_of (bytes_in characters))
   pub span : x.span ≡ span_of (bytes_in characters)
   pub marks : x.marks ≡ (received characters).marks
 

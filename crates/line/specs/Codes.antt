@@ -37,31 +37,40 @@ abbrev pub setpoint? : Command → Bool
 setpoint? WriteSetpoint = true
 setpoint? command = false
 
+-- a setpoint of another unit
+abbrev pub wrong_unit? : List ℕ → Command → Bool
+wrong_unit? bytes command = setpoint? command && not (percent? bytes)
+
 -- whether a test holds of the command, where there is one
 abbrev pub known? : (Command → Bool) → Option Command → Bool
 known? test command = option_map_or test command false
 
 -- whether the first edit of a command is refused by this number
 abbrev pub refuses? : ℕ → List ℕ → Fields → Command → Bool
-refuses? number bytes fields command = option_map_or (λ n. n == number) (refusal_of (edits_of command bytes) fields) false
+refuses? number bytes fields command =
+    option_map_or (λ n. n == number) (refusal_of (edits_of command bytes) fields) false
 
 -- the share that a setpoint command asks for, of a channel with this full scale
 abbrev pub asked_share : List ℕ → ℕ → ℕ
 asked_share bytes scale = share_of (load_of (value_of (number32 bytes 1))) scale
 
--- Whether a code is to be given, what is tried before it aside. The supply is not asked here: by these the channel judges alone.
+-- Whether a code is to be given, what is tried before it aside. The supply is not asked here: by these
+-- the channel judges alone.
 abbrev pub own_given? : Option Command → List ℕ → Fields → ResponseCode → Bool
 own_given? command bytes fields NotImplemented = is_none command
 own_given? command bytes fields ByteCount = known? (λ c. not (counted? c bytes)) command
 own_given? command bytes fields WriteProtected = known? writes? command && not fields.key_open
 own_given? command bytes fields InvalidSelection =
-    known? (λ c. (setpoint? c && not (percent? bytes)) || refuses? (code_number InvalidSelection) bytes fields c) command
-own_given? command bytes fields TooSmall = known? (refuses? (code_number TooSmall) bytes fields) command
-own_given? command bytes fields TooLarge = known? (refuses? (code_number TooLarge) bytes fields) command
+    known? (λ c. wrong_unit? bytes c || refuses? (code_number InvalidSelection) bytes fields c) command
+own_given? command bytes fields TooSmall =
+    known? (refuses? (code_number TooSmall) bytes fields) command
+own_given? command bytes fields TooLarge =
+    known? (refuses? (code_number TooLarge) bytes fields) command
 own_given? command bytes fields AccessRestricted = false
 own_given? command bytes fields Success = true
 
--- the same with the one code that the supply decides: the share that a setpoint asks for does not fit beside the others'
+-- the same with the one code that the supply decides: the share that a setpoint asks for does not fit
+-- beside the others'
 abbrev pub given? : Option Command → List ℕ → Fields → Allotment → ResponseCode → Bool
 given? command bytes fields a AccessRestricted =
     known? setpoint? command && not (allots? a (asked_share bytes fields.full_scale))
@@ -70,7 +79,8 @@ given? command bytes fields a code = own_given? command bytes fields code
 -- the codes in the order in which they are tried
 abbrev pub codes_in_turn : List ResponseCode
 codes_in_turn =
-    NotImplemented ∷ ByteCount ∷ WriteProtected ∷ InvalidSelection ∷ TooSmall ∷ TooLarge ∷ AccessRestricted ∷ Success ∷ []
+    NotImplemented ∷ ByteCount ∷ WriteProtected ∷ InvalidSelection ∷ TooSmall ∷ TooLarge
+    ∷ AccessRestricted ∷ Success ∷ []
 
 -- how many codes are tried before one
 abbrev pub turn_of : ResponseCode → ℕ
@@ -107,7 +117,8 @@ success? code = code_number code == 0
 abbrev pub asks? : Option Command → List ℕ → Fields → Bool
 asks? command bytes fields = known? setpoint? command && success? (own_code command bytes fields)
 
--- the code of a setpoint of a channel with this full scale, by what its ceiling makes of the setpoint: the load is weighed
+-- the code of a setpoint of a channel with this full scale, by what its ceiling makes of the setpoint:
+-- the load is weighed
 abbrev pub weighed : Allotment → ℕ → Result ℕ SetpointRefusal → ResponseCode
 weighed a scale (Ok load) = if allots? a (share_of load scale) then Success else AccessRestricted
 weighed a scale (Err NotANumber) = InvalidSelection

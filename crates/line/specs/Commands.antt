@@ -1,4 +1,5 @@
--- The commands that a channel knows, in one table: their numbers, and how many data bytes those have that write.
+-- The commands that a channel knows, in one table: their numbers, and how many data bytes those have
+-- that write.
 use Rattle.std.specs.Prelude.{ℕ, Bool, true, List, [], ◌∷◌, length, find, is_some, Some, None, Option, ◌==◌}
 use Rattle.std.specs.Option.{option_map_or}
 use Rattle.record.specs.TextParts.{part_length, labels, message}
@@ -36,7 +37,8 @@ number_of WritePreambles = 59
 number_of ReadSetpoint = 235
 number_of WriteSetpoint = 236
 
--- how many data bytes a command asks for that writes; none for one that reads, whatever data come with it
+-- how many data bytes a command asks for that writes; none for one that reads, whatever data come with
+-- it
 abbrev pub count_of : Command → Option ℕ
 count_of ReadUniqueIdentifier = None
 count_of ReadPrimaryVariable = None
@@ -55,9 +57,10 @@ count_of WriteSetpoint = Some 5
 
 abbrev pub commands : List Command
 commands =
-    ReadUniqueIdentifier ∷ ReadPrimaryVariable ∷ WritePollingAddress ∷ ReadUniqueIdentifierByTag ∷ ReadMessage
-    ∷ ReadTagDescriptorDate ∷ ReadAssemblyNumber ∷ WriteMessage ∷ WriteTagDescriptorDate ∷ WriteAssemblyNumber
-    ∷ ResetConfigurationChanged ∷ WritePreambles ∷ ReadSetpoint ∷ WriteSetpoint ∷ []
+    ReadUniqueIdentifier ∷ ReadPrimaryVariable ∷ WritePollingAddress ∷ ReadUniqueIdentifierByTag
+    ∷ ReadMessage ∷ ReadTagDescriptorDate ∷ ReadAssemblyNumber ∷ WriteMessage ∷ WriteTagDescriptorDate
+    ∷ WriteAssemblyNumber ∷ ResetConfigurationChanged ∷ WritePreambles ∷ ReadSetpoint ∷ WriteSetpoint
+    ∷ []
 
 -- the command of a number, where a channel knows one
 abbrev pub command_of : ℕ → Option Command

@@ -9,8 +9,9 @@ use Rattle.rack.specs.Edits.{Edit, polling_address, preambles, assembly_number, 
 use Rattle.line.specs.declared.commands.Command.{Command}
 use Rattle.line.specs.declared.commands.Command.TheVariants.{WritePollingAddress, WriteMessage, WriteTagDescriptorDate, WriteAssemblyNumber, ResetConfigurationChanged, WritePreambles, WriteSetpoint}
 
--- What a command writes from data of its count, in this order: the field, then the changed flag. All that write from their
--- data set the flag, but not the setpoint, which stands behind its unit code; command 38 clears it.
+-- What a command writes from data of its count, in this order: the field, then the changed flag. All
+-- that write from their data set the flag, but not the setpoint, which stands behind its unit code;
+-- another clears it.
 abbrev pub edits_of : Command → List ℕ → List Edit
 edits_of WritePollingAddress bytes = polling_address (slice_index bytes 0) ∷ changed true ∷ []
 edits_of WriteMessage bytes = text message.start bytes ∷ changed true ∷ []
@@ -21,7 +22,8 @@ edits_of WriteSetpoint bytes = setpoint (number32 bytes 1) ∷ []
 edits_of ResetConfigurationChanged bytes = changed false ∷ []
 edits_of command bytes = []
 
--- the number by which the first of these edits is refused; behind it stands only the flag, which never is
+-- the number by which the first of these edits is refused; behind it stands only the flag, which never
+-- is
 abbrev pub refusal_of : List Edit → Fields → Option ℕ
 refusal_of [] fields = None
 refusal_of (e ∷ es) fields = refused_by e fields

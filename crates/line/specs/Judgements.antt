@@ -1,4 +1,5 @@
--- How a channel judges a whole transmission that means it, and what comes of that: what is written, and what is answered.
+-- How a channel judges a whole transmission that means it, and what comes of that: what is written, and
+-- what is answered.
 use Rattle.std.specs.Prelude.{◌≡◌, ℕ, Bool, if◌then◌else◌, List, [], ◌∷◌, Some, None, Option}
 use Rattle.frame.specs.Frames.{Parts}
 use Rattle.frame.specs.Making.{asked, reply_transmission}
@@ -30,13 +31,15 @@ judged_by code None bytes = refused code
 
 abbrev pub judgement : Reception → Parts → Fields → Allotment → Judgement
 judgement x f fields a =
-    if sound? x then judged_by (code_of (command_of f.command) f.«data» fields a) (command_of f.command) f.«data»
+    let command = command_of f.command in
+    if sound? x then judged_by (code_of command f.«data» fields a) command f.«data»
     else damaged (error_status x)
 
 -- the same where the supply does not object
 abbrev pub own_judgement : Reception → Parts → Fields → Judgement
 own_judgement x f fields =
-    if sound? x then judged_by (own_code (command_of f.command) f.«data» fields) (command_of f.command) f.«data»
+    let command = command_of f.command in
+    if sound? x then judged_by (own_code command f.«data» fields) command f.«data»
     else damaged (error_status x)
 
 -- only an accepted command writes
@@ -60,13 +63,14 @@ second_for changed = if changed then 64 else 0
 abbrev pub second_status : Record → ℕ
 second_status r = second_for r.fields.changed
 
--- What a reply carries, from the record after the writes: two status bytes and data. A communication error has no second
--- status, and only code 0 has data.
+-- What a reply carries, from the record after the writes: two status bytes and data. A communication
+-- error has no second status, and only code 0 has data.
 abbrev pub carried : Judgement → Record → List ℕ
 carried (damaged status) r = status ∷ 0 ∷ []
 carried (refused code) r = code_number code ∷ second_status r ∷ []
 carried (accepted command bytes) r = 0 ∷ second_status r ∷ reply_data command bytes r
 
--- the bytes of an answer: as many preambles as the channel has after the writes, and a reply's frame to the request's
+-- the bytes of an answer: as many preambles as the channel has after the writes, and a reply's frame to
+-- the request's
 abbrev pub answer_bytes : Parts → Judgement → Record → List ℕ
 answer_bytes f j r = reply_transmission (asked r.fields.preambles f.address f.command (carried j r))

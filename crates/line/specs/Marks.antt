@@ -6,7 +6,8 @@ use Rattle.line.specs.declared.marks.Marks.{Marks}
 
 -- their sum: 1 parity, 2 overrun, 4 framing
 abbrev pub marks_number : Marks → ℕ
-marks_number m = (if m.parity then 1 else 0) + (if m.overrun then 2 else 0) + (if m.framing then 4 else 0)
+marks_number m =
+    (if m.parity then 1 else 0) + (if m.overrun then 2 else 0) + (if m.framing then 4 else 0)
 
 -- all three marks
 abbrev pub all_marks : ℕ

@@ -17,7 +17,8 @@ pub data Asked : Type 0 where
 -- the request of a known command: the question for a tag is one with as many bytes as a tag
 abbrev pub asked_of : Command → List ℕ → Asked
 asked_of ReadUniqueIdentifierByTag bytes =
-    if length bytes == part_length tag then tag_question bytes else bare (number_of ReadUniqueIdentifierByTag)
+    if length bytes == part_length tag then tag_question bytes
+    else bare (number_of ReadUniqueIdentifierByTag)
 asked_of WriteMessage bytes = text_write WriteMessage bytes
 asked_of WriteTagDescriptorDate bytes = text_write WriteTagDescriptorDate bytes
 asked_of WritePollingAddress bytes = number_write WritePollingAddress bytes
@@ -28,4 +29,5 @@ asked_of command bytes = bare (number_of command)
 
 -- the request of a command's number with its data
 abbrev pub asked_by : ℕ → List ℕ → Asked
-asked_by number bytes = option_map_or (λ command. asked_of command bytes) (command_of number) (bare number)
+asked_by number bytes =
+    option_map_or (λ command. asked_of command bytes) (command_of number) (bare number)

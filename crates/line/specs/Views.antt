@@ -1,9 +1,16 @@
 -- What the structs of the code say, with lists in the place of references.
-use Rattle.std.specs.Prelude.{List, ◌++◌}
+use Rattle.std.specs.Prelude.{ℕ, true, List, ◌++◌, take, IfOk, Result}
 use Rattle.std.specs.Option.{option_map, option_to_list}
+use Rattle.refusals.specs.Filling.{Fills}
+use Rattle.refusals.specs.Refusals.{numbered}
+use Rattle.refusals.specs.declared.Refusal.{Refusal}
+use Rattle.frame.specs.Views.{frame_parts}
+use Rattle.frame.specs.declared.Frame.{Frame}
+use Rattle.record.specs.declared.Record.{Record}
+use Rattle.line.specs.Answers.{AnswersBy}
 use Rattle.rack.specs.Edits.{Edit, edit_of}
 use Rattle.line.specs.Characters.{Reception}
-use Rattle.line.specs.Judgements.{Judgement, damaged, refused, accepted}
+use Rattle.line.specs.Judgements.{Judgement, damaged, refused, accepted, answer_bytes}
 use Rattle.line.specs.Marks.{marks_number}
 use Rattle.line.specs.Requests.{Asked, tag_question, text_write, number_write, bare}
 use Rattle.line.specs.declared.changes.Changes.{Changes}
@@ -29,4 +36,19 @@ judged (Accepted command) = accepted command.command command.«data».now
 
 -- the edits of these changes, in the order in which they are made
 abbrev pub edits_in : Changes → List Edit
-edits_in c = option_to_list (option_map edit_of c.field) ++ option_to_list (option_map edit_of c.flag)
+edits_in c =
+    option_to_list (option_map edit_of c.field) ++ option_to_list (option_map edit_of c.flag)
+
+-- the answer to a frame by a judgement, from the channel's record after the writes
+abbrev pub answer_to : Frame → JudgementOfCode → Record → List ℕ
+answer_to f j r = answer_bytes (frame_parts f) (judged j) r
+
+-- a call that makes an answer in the front of a lent buffer: 102 where it is too short, and no other
+-- refusal
+abbrev pub MakesAnswer : List ℕ → List ℕ → Result ℕ Refusal → List ℕ → Type 0
+MakesAnswer bytes before result after = Fills true bytes before (numbered result) after
+
+-- what it made is by the law of answers, to a frame, with the preambles of this record
+abbrev pub KeepsAnswerLaw : Frame → Record → Result ℕ Refusal → List ℕ → Type 0
+KeepsAnswerLaw f r result after =
+    IfOk result (λ n. AnswersBy (frame_parts f) r.fields.preambles (take n after))

@@ -8,11 +8,12 @@ use Rattle.frame.specs.Transmissions.{Request, Transmits, span_of}
 use Rattle.record.specs.Bytes.{bit?}
 use Rattle.line.specs.Characters.{Character, Reception, Keeps, bytes_in, from_start, marked?, least_preambles}
 
--- the frame of a whole transmission: at least two preambles, then a request's frame and nothing more
+-- the frame of a whole transmission: at least two preambles, a request's frame and nothing more
 abbrev pub frame_of : Reception → Option Parts
 frame_of x = if nat_le least_preambles x.preambles then result_ok (request_frame x.span) else None
 
--- a whole transmission is sound if no character from the start on is marked and its exclusive or is 0
+-- a whole transmission is sound if no character from the start on is marked and its exclusive or is
+-- 0
 abbrev pub sound? : Reception → Bool
 sound? x = x.marks == 0 && check_of x.span == 0
 
@@ -22,13 +23,15 @@ pub record Sound (characters : List Character) : Type 0 where
   pub transmits : Transmits request (bytes_in characters)
   pub unmarked : AllByRecursion (λ c. c.marks ≡ 0) (from_start characters)
 
--- of a whole transmission of any characters that are kept so, the test tells exactly whether they are sound
+-- of a whole transmission of any characters that are kept so, the test tells exactly whether they are
+-- sound
 abbrev pub TellsSound : Reception → Bool → Type 0
 TellsSound x told =
-    (characters : List Character) (f : Parts) → Keeps x characters → frame_of x ≡ Some f → told ≡ true ↔ Sound characters
+    (characters : List Character) (f : Parts) → Keeps x characters → frame_of x ≡ Some f
+    → told ≡ true ↔ Sound characters
 
--- The first status of a communication error: 128 and, each once, 64 for parity, 32 for overrun, 16 for framing, 8 for a wrong
--- check.
+-- The first status of a communication error: 128 and, each once, 64 for parity, 32 for overrun, 16 for
+-- framing, 8 for a wrong check.
 abbrev pub error_status_by : Bool → Bool → Bool → Bool → ℕ
 error_status_by parity overrun framing wrong_check =
     128 + (if parity then 64 else 0) + (if overrun then 32 else 0) + (if framing then 16 else 0)
@@ -41,8 +44,8 @@ abbrev pub error_status : Reception → ℕ
 error_status x =
     error_status_by (bit? x.marks 0) (bit? x.marks 1) (bit? x.marks 2) (wrong_check? x.span)
 
--- Of any characters that are kept so: each mark is told exactly where some character from the start on has it, and the wrong
--- check exactly where the exclusive or is not 0.
+-- Of any characters that are kept so: each mark is told exactly where some character from the start on
+-- has it, and the wrong check exactly where the exclusive or is not 0.
 abbrev pub TellsDamage : Reception → ℕ → Type 0
 TellsDamage x status =
     (characters : List Character) → Keeps x characters →

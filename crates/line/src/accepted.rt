@@ -6,7 +6,8 @@ ghost use Rattle.line.specs.Commands.{counted?};
 use crate::changes::{Changes, changes_of};
 use crate::commands::Command;
 
-/// A command that was accepted, with its data: of the count that it asks for, or any where it reads. A judgement makes it.
+/// A command that was accepted, with its data: of the count that it asks for, or any where it reads. A
+/// judgement makes it.
 #[derive(Clone, Copy)]
 pub struct AcceptedCommand<'a> {
     pub(crate) command: Command,

@@ -2,7 +2,7 @@
 
 ghost use Rattle.std.specs.Prelude.{◌≡◌};
 ghost use Rattle.frame.specs.Views.{address_bytes, frame_parts};
-ghost use Rattle.line.specs.Addressing.{address_means?, tag_means?, means?};
+ghost use Rattle.line.specs.Addressing.{addresses?, tag_means?, means?};
 ghost use Rattle.line.specs.Views.{seen};
 
 use crate::commands::Command;
@@ -40,8 +40,7 @@ pub fn tag_means(request: Request<'_>, tag: &[u8]) -> bool
 
 /// Whether an address means a channel with these fields.
 pub fn address_means(address: Address, fields: Fields) -> bool
-    ensures { result
-        ≡ address_means? (address_bytes address) fields.polling_address fields.device_type fields.identification }
+    ensures { result ≡ addresses? (address_bytes address) fields }
 {
     match address.bytes() {
         [first] => *first / 16 % 8 == 0 && *first % 16 == fields.polling_address,

@@ -6,7 +6,8 @@ ghost use Rattle.line.specs.Codes.{code_number};
 
 use setpoint::SetpointRefusal;
 
-/// Response codes of a reply, by the names of the protocol, with the numbers that stand in its first status byte.
+/// Response codes of a reply, by the names of the protocol, with the numbers that stand in its first
+/// status byte.
 #[derive(Clone, Copy, PartialEq, Eq, Debug)]
 pub enum ResponseCode {
     Success = 0,
@@ -28,7 +29,7 @@ impl ResponseCode {
     }
 }
 
-/// As a rack's refusal is made of one: the two enums have other cases beside these, so there are two impls.
+// As a rack's refusal is made of one: the two enums have other cases beside these, so there are two impls.
 impl From<SetpointRefusal> for ResponseCode {
     ghost from_gives = { λ e r. code_number r ≡ code_of e };
 

@@ -35,7 +35,8 @@ impl Command {
         self as u8
     }
 
-    /// How many data bytes it asks for, if it writes. One that reads takes whatever data come with it.
+    /// How many data bytes it asks for, if it writes. One that reads takes whatever data come with
+    /// it.
     pub fn count(self) -> Option<usize>
         ensures { result ≡ count_of self }
     {

@@ -12,9 +12,9 @@ use record::{Fields, pattern_of, u24_to_be_bytes};
 // Stands before the manufacturer in the data of an identity.
 const EXPANSION: u8 = 0xFE;
 
-/// FE, the manufacturer, the device type, and the identification number last. Between them 2 preambles that a request needs at
-/// least, revision 5 of the universal and 1 of the device's own commands, revision 1 of the software, hardware revision 1 on
-/// RS-485, no flags.
+/// FE, the manufacturer, the device type, and the identification number last. Between them 2 preambles
+/// that a request needs at least, revision 5 of the universal and 1 of the device's own commands,
+/// revision 1 of the software, hardware revision 1 on RS-485, no flags.
 pub(crate) fn unique_identifier_data(fields: Fields) -> [u8; 12]
     ensures { result ≡ unique_identifier_data fields }
 {

@@ -21,7 +21,7 @@ use record::{Fields, MAX_POLLING_ADDRESS, MAX_PREAMBLES, MIN_PREAMBLES};
 /// The unit code of percent.
 pub(crate) const PERCENT: u8 = 0x39;
 
-/// Judges a whole transmission that means a channel with these fields: once, and nothing is written here.
+/// Judges a whole transmission that means a channel with these fields. Nothing is written here.
 pub fn judge<'a, A: Allotting>(
     received: Received<'_>,
     frame: Frame<'a>,
@@ -29,7 +29,7 @@ pub fn judge<'a, A: Allotting>(
     allotting: &A,
 ) -> Judgement<'a>
     ensures value { judged result
-        ≡ judgement (reception received.entry) (frame_parts frame.entry) fields (A.Allotting.allotment allotting.now) }
+        ≡ judgement (reception received.entry) (frame_parts frame.entry) fields (A.allotment allotting.now) }
     ensures writable { Writable (judged result) fields }
 {
     if !received.is_sound() {
@@ -46,16 +46,17 @@ pub fn judge<'a, A: Allotting>(
     }
 }
 
-/// The response code of a sound request to a channel, by one `match`: its arms stand in the order in which codes are tried.
-/// Of command and data, and not of a frame, whose address and check have no part in it.
+/// The response code of a sound request to a channel, by one `match`: its arms stand in the order in
+/// which codes are tried. Of command and data, and not of a frame, whose address and check have no part
+/// in it.
 pub fn response_code<A: Allotting>(
     command: Option<Command>,
     data: &[u8],
     fields: Fields,
     allotting: &A,
 ) -> ResponseCode
-    ensures value { result ≡ code_of command «data».now fields (A.Allotting.allotment allotting.now) }
-    ensures first { FirstGiven (given? command «data».now fields (A.Allotting.allotment allotting.now)) result }
+    ensures value { result ≡ code_of command «data».now fields (A.allotment allotting.now) }
+    ensures first { FirstGiven (given? command «data».now fields (A.allotment allotting.now)) result }
 {
     match command {
         None => ResponseCode::NotImplemented,
@@ -72,11 +73,12 @@ pub fn response_code<A: Allotting>(
     }
 }
 
-/// The code of a setpoint in percent, behind its unit code: as the rack refuses, then as its share is weighed.
+/// The code of a setpoint in percent, behind its unit code: as the rack refuses, then as its share is
+/// weighed.
 fn setpoint_code<A: Allotting>(data: &[u8], fields: Fields, allotting: &A) -> ResponseCode
     requires { length «data».now ≡ 5 }
     ensures { result
-        ≡ weighed (A.Allotting.allotment allotting.now) fields.full_scale
+        ≡ weighed (A.allotment allotting.now) fields.full_scale
         (admitted_under fields.ceiling (value_of (number32 «data».now 1))) }
 {
     let pattern = u32::from_be_bytes([data[1], data[2], data[3], data[4]]);

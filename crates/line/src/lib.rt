@@ -25,5 +25,5 @@ pub use judgements::Judgement;
 pub use judging::{judge, response_code};
 pub use marks::Marks;
 pub use reception::Received;
-pub use replying::{LABELS_LENGTH, MAX_ANSWER, MESSAGE_LENGTH, ReplySource, reply};
+pub use replying::{ANSWER_ROOM, LABELS_LENGTH, MAX_ANSWER, MESSAGE_LENGTH, ReplySource, reply};
 pub use requests::Request;

@@ -1,16 +1,13 @@
 //! What a channel answers.
 
-ghost use Rattle.std.specs.Prelude.{◌≡◌, ◌+◌, ◌≤◌, IfOk, take, [], ◌∷◌, ◌++◌, length, true};
-ghost use Rattle.refusals.specs.Filling.{Fills};
-ghost use Rattle.refusals.specs.Refusals.{numbered};
-ghost use Rattle.frame.specs.Views.{frame_parts};
+ghost use Rattle.std.specs.Prelude.{◌≡◌, ◌+◌, ◌≤◌, [], ◌∷◌, ◌++◌, length};
 ghost use Rattle.record.specs.Lawful.{LawfulFields};
 ghost use Rattle.record.specs.TextParts.{labels, message, part_of};
 ghost use Rattle.record.specs.declared.Record.{Record as ChannelRecord};
-ghost use Rattle.line.specs.Answers.{max_answer, AnswersBy};
-ghost use Rattle.line.specs.Judgements.{carried, second_for, answer_bytes};
+ghost use Rattle.line.specs.Answers.{max_answer};
+ghost use Rattle.line.specs.Judgements.{carried, second_for};
 ghost use Rattle.line.specs.Replies.{reply_data};
-ghost use Rattle.line.specs.Views.{judged};
+ghost use Rattle.line.specs.Views.{judged, answer_to, MakesAnswer, KeepsAnswerLaw};
 
 use crate::accepted::AcceptedCommand;
 use crate::commands::Command;
@@ -27,6 +24,11 @@ pub const MESSAGE_LENGTH: usize = MESSAGE.end - MESSAGE.start;
 
 /// No answer is longer.
 pub const MAX_ANSWER: usize = 50;
+
+/// The room that is asked for an answer.
+pub const ANSWER_ROOM: usize = 64;
+
+const _: () = prove!(MAX_ANSWER <= ANSWER_ROOM);
 
 /// The second status where the configuration counts as changed.
 const CONFIGURATION_CHANGED: u8 = 64;
@@ -57,22 +59,18 @@ pub trait ReplySource {
     ghost lawful: { (x : Self) → LawfulFields (channel_record x).fields };
 }
 
-/// Makes the reply of a judgement, from the channel after the writes, in the front of `out` and answers its length: 102 where
-/// `out` is too short.
+/// Makes the reply of a judgement, from the channel after the writes, in the front of `out` and answers
+/// its length: 102 where `out` is too short.
 pub fn reply<S: ReplySource>(
     judgement: Judgement<'_>,
     frame: Frame<'_>,
     source: &S,
     out: &mut [u8],
 ) -> Result<usize, Refusal>
-    ensures fills { Fills true
-        (answer_bytes (frame_parts frame.entry) (judged judgement.entry) (S.ReplySource.channel_record source.now))
-        out.old (numbered result) out.new }
-    ensures short { length
-        (answer_bytes (frame_parts frame.entry) (judged judgement.entry) (S.ReplySource.channel_record source.now))
-        ≤ max_answer }
-    ensures law { IfOk result (λ n.
-        AnswersBy (frame_parts frame.entry) (S.ReplySource.channel_record source.now).fields.preambles (take n out.new)) }
+    ensures fills { MakesAnswer (answer_to frame.entry judgement.entry (S.channel_record source.now))
+        out.old result out.new }
+    ensures short { length (answer_to frame.entry judgement.entry (S.channel_record source.now)) ≤ max_answer }
+    ensures law { KeepsAnswerLaw frame.entry (S.channel_record source.now) result out.new }
 {
     let fields = source.fields();
     let content = content(judgement, fields, source);
@@ -87,8 +85,8 @@ pub fn reply<S: ReplySource>(
 
 /// What a reply carries.
 fn content<S: ReplySource>(judgement: Judgement<'_>, fields: Fields, source: &S) -> Content
-    requires { fields ≡ (S.ReplySource.channel_record source.now).fields }
-    ensures { result.items ≡ carried (judged judgement.entry) (S.ReplySource.channel_record source.now) }
+    requires { fields ≡ (S.channel_record source.now).fields }
+    ensures { result.items ≡ carried (judged judgement.entry) (S.channel_record source.now) }
 {
     match judgement {
         Judgement::CommunicationError(status) => status_bytes(status, 0),
@@ -133,11 +131,11 @@ fn put_data<S: ReplySource>(
     fields: Fields,
     source: &S,
 )
-    requires fields { fields ≡ (S.ReplySource.channel_record source.now).fields }
+    requires fields { fields ≡ (S.channel_record source.now).fields }
     requires room { length content.old.items ≡ 2 }
     ensures { content.new.items
         ≡ content.old.items
-        ++ reply_data accepted.entry.command accepted.entry.«data».now (S.ReplySource.channel_record source.now) }
+        ++ reply_data accepted.entry.command accepted.entry.«data».now (S.channel_record source.now) }
 {
     match accepted.command {
         Command::ReadUniqueIdentifier | Command::ReadUniqueIdentifierByTag => {
