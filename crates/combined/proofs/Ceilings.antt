@@ -4,6 +4,7 @@ use Rattle.std.proofs.Common.{inl, inr, sym, ap, ◌∙◌, arith}
 use Rattle.std.specs.Float.Ieee.{lt}
 use Rattle.std.specs.Float.{float_is_finite}
 use Rattle.std.specs.Option.{option_map}
+use Rattle.std.specs.Result.{result_err}
 use Rattle.std.proofs.lemmas.List.{map-set, length-map}
 use Rattle.std.proofs.lemmas.Option.{slice_get-map}
 use Rattle.std.proofs.lemmas.Bool.{cases_lt, lt-ltb, le-ltb}
@@ -14,12 +15,10 @@ use Rattle.setpoint.specs.declared.SetpointRefusal.{SetpointRefusal}
 use Rattle.setpoint.specs.declared.SetpointRefusal.TheVariants.{NotANumber, AboveCeiling, BelowZero}
 use Rattle.record.specs.declared.Fields.{Fields}
 use Rattle.record.specs.declared.Record.{Record}
-use Rattle.record.specs.Readings.{is_finite}
-use Rattle.rack.specs.declared.changes.Change.{Change}
-use Rattle.rack.specs.declared.changes.Change.TheVariants.{PollingAddress, Preambles, AssemblyNumber, Changed, Key, Sample, Text, Setpoint}
-use Rattle.combined.specs.Ceilings.{lowered_fields, lowered, lowered_all}
-use Rattle.rack.specs.Changes.{text_run?, written, answer_of}
-use Rattle.rack.specs.Meaning.{told, record_at, channel_of, answered, asked, written_at, records_after}
+use Rattle.combined.specs.Ceilings.{lowered_fields, lowered, lowered_all, answer_under, turned_away}
+use Rattle.rack.specs.Changes.{refused_by, unless, put, written, answer_of}
+use Rattle.rack.specs.Edits.{Edit, polling_address, preambles, assembly_number, changed, key, sample, text, setpoint}
+use Rattle.rack.specs.Meaning.{told, record_at, channel_of, answered, asked, written_at, records_after, answer_at}
 
 -- an answer with its value changed
 abbrev on_ok : {X Y : Type 0} → (X → Y) → Result X ℕ → Result Y ℕ
@@ -41,25 +40,44 @@ answered_mapped question p None = refl
 asked_below : {X : Type 0} (question : Record → Result X ℕ) (p : ℕ) (records : List Record) (c : ℕ) → answered (λ r. question (lowered p r)) (channel_of records c) ≡ answered question (channel_of (lowered_all p records) c)
 asked_below question p records c = sym (ap (answered question) (channel_lowered p records c) ∙ answered_mapped question p (channel_of records c))
 
-on_cond : (b : Bool) (p : ℕ) (r : Record) (n : ℕ) → cond b (Ok (lowered p r)) (Err n) ≡ on_ok (lowered p) (cond b (Ok r) (Err n))
-on_cond true p r n = refl
-on_cond false p r n = refl
-
-on_two : (a b : Bool) (p : ℕ) (r : Record) (m n : ℕ) → cond a (Err m) (cond b (Err n) (Ok (lowered p r))) ≡ on_ok (lowered p) (cond a (Err m) (cond b (Err n) (Ok r)))
-on_two true b p r m n = refl
-on_two false true p r m n = refl
-on_two false false p r m n = refl
+-- a write that the same fields refuse makes the lowered record of what it makes
+on_unless : (o : Option ℕ) (p : ℕ) (r : Record) → unless o (lowered p r) ≡ on_ok (lowered p) (unless o r)
+on_unless None p r = refl
+on_unless (Some n) p r = refl
 
 -- every write but a setpoint's passes under a ceiling as it is
-passes : (change : Change) (p : ℕ) (r : Record) → ((x : ℕ) → change ≢ Setpoint x) → written change (lowered p r) ≡ on_ok (lowered p) (written change r)
-passes (PollingAddress a) p r h = on_cond (nat_le a 15) p _ 2
-passes (Preambles n) p r h = on_two (nat_lt n 2) (nat_lt 15 n) p _ 4 3
-passes (AssemblyNumber n) p r h = on_cond (nat_le n 16777215) p _ 3
-passes (Changed on) p r h = refl
-passes (Key on) p r h = refl
-passes (Sample reading) p r h = on_cond (is_finite reading) p _ 108
-passes (Text place bytes) p r h = on_cond (text_run? place bytes.now) p _ 110
-passes (Setpoint x) p r h = absurd (h x refl)
+passes : (edit : Edit) (p : ℕ) (r : Record) → ((x : ℕ) → edit ≢ setpoint x) → written edit (lowered p r) ≡ on_ok (lowered p) (written edit r)
+passes (polling_address a) p r h = on_unless _ p (put (polling_address a) r)
+passes (preambles n) p r h = on_unless _ p (put (preambles n) r)
+passes (assembly_number n) p r h = on_unless _ p (put (assembly_number n) r)
+passes (changed on) p r h = refl
+passes (key on) p r h = refl
+passes (sample reading) p r h = on_unless _ p (put (sample reading) r)
+passes (text place bytes) p r h = on_unless _ p (put (text place bytes) r)
+passes (setpoint x) p r h = absurd (h x refl)
+
+-- ---- what a ceiling answers by itself
+
+answer_unless : (o : Option ℕ) (r : Record) → answer_of (unless o r) ≡ unless o tt
+answer_unless None r = refl
+answer_unless (Some n) r = refl
+
+answer_each : (edit : Edit) (p : ℕ) (o : Option Record) → answer_of (answered (λ r. written edit (lowered p r)) o) ≡ answered (λ r. unless (refused_by edit (lowered_fields p r.fields)) tt) o
+answer_each edit p (Some r) = answer_unless (refused_by edit (lowered_fields p r.fields)) (put edit (lowered p r))
+answer_each edit p None = refl
+
+pub under_is : (p : ℕ) (records : List Record) (c : ℕ) (edit : Edit) → answer_at (lowered_all p records) c edit ≡ answer_under p records c edit
+under_is p records c edit = ap answer_of (sym (asked_below (written edit) p records c)) ∙ answer_each edit p (channel_of records c)
+
+none_turned : (edit : Edit) (p : ℕ) (records : List Record) (c : ℕ) → ((x : ℕ) → edit ≢ setpoint x) → turned_away p records c edit ≡ None
+none_turned (polling_address a) p records c h = refl
+none_turned (preambles n) p records c h = refl
+none_turned (assembly_number n) p records c h = refl
+none_turned (changed on) p records c h = refl
+none_turned (key on) p records c h = refl
+none_turned (sample reading) p records c h = refl
+none_turned (text place bytes) p records c h = refl
+none_turned (setpoint x) p records c h = absurd (h x refl)
 
 -- what a smaller ceiling admits, a larger one does
 admits_by : (n l f : Bool) (a b load value : ℕ) → a ≤ b → ◌≡◌ {A = Result ℕ SetpointRefusal} (Ok load) (cond n (Err NotANumber) (cond l (Err BelowZero) (cond (not f || nat_lt a value) (Err AboveCeiling) (Ok value)))) → cond n (Err NotANumber) (cond l (Err BelowZero) (cond (not f || nat_lt b value) (Err AboveCeiling) (Ok value))) ≡ Ok load
@@ -75,12 +93,12 @@ admits : (v : Float) (a b load : ℕ) → a ≤ b → Ok load ≡ admitted_under
 admits v a b load h e = admits_by (is_nan v) (lt v nought) (float_is_finite v) (a * 1024) (b * 1024) load (load_of v) (omega arith) e
 
 -- a setpoint that is admitted under the smaller ceiling
-setpoint_passes : (x p load : ℕ) (r : Record) → Ok load ≡ admitted_under (min p r.fields.ceiling) (value_of x) → written (Setpoint x) (lowered p r) ≡ on_ok (lowered p) (written (Setpoint x) r)
+setpoint_passes : (x p load : ℕ) (r : Record) → Ok load ≡ admitted_under (min p r.fields.ceiling) (value_of x) → written (setpoint x) (lowered p r) ≡ on_ok (lowered p) (written (setpoint x) r)
 setpoint_passes x p load r e = rw (sym e, admits (value_of x) (min p r.fields.ceiling) r.fields.ceiling load (omega arith) e) refl
 
-answered_on : (change : Change) (p : ℕ) (o : Option Record) → ((r : Record) → o ≡ Some r → written change (lowered p r) ≡ on_ok (lowered p) (written change r)) → answered (written change) (option_map (lowered p) o) ≡ on_ok (lowered p) (answered (written change) o)
-answered_on change p (Some r) h = h r refl
-answered_on change p None h = refl
+answered_on : (edit : Edit) (p : ℕ) (o : Option Record) → ((r : Record) → o ≡ Some r → written edit (lowered p r) ≡ on_ok (lowered p) (written edit r)) → answered (written edit) (option_map (lowered p) o) ≡ on_ok (lowered p) (answered (written edit) o)
+answered_on edit p (Some r) h = h r refl
+answered_on edit p None h = refl
 
 answer_on : (p : ℕ) (w : Result Record ℕ) → answer_of w ≡ answer_of (on_ok (lowered p) w)
 answer_on p (Ok r) = refl
@@ -91,30 +109,40 @@ after_on p (Ok r) records c = map-set (lowered p) records c r
 after_on p (Err n) records c = refl
 
 -- what a write that passes does to the records under a ceiling
-pub record Passed (p : ℕ) (records : List Record) (c : ℕ) (change : Change) : Type 0 where
-  pub answer : answer_of (written_at records c change) ≡ answer_of (written_at (lowered_all p records) c change)
-  pub after : lowered_all p (records_after (written_at records c change) records c) ≡ records_after (written_at (lowered_all p records) c change) (lowered_all p records) c
+pub record Passed (p : ℕ) (records : List Record) (c : ℕ) (edit : Edit) : Type 0 where
+  pub answer : answer_of (written_at records c edit) ≡ answer_of (written_at (lowered_all p records) c edit)
+  pub after : lowered_all p (records_after (written_at records c edit) records c) ≡ records_after (written_at (lowered_all p records) c edit) (lowered_all p records) c
+  pub through : turned_away p records c edit ≡ None
 
-passed : (p : ℕ) (records : List Record) (c : ℕ) (change : Change) → ((r : Record) → channel_of records c ≡ Some r → written change (lowered p r) ≡ on_ok (lowered p) (written change r)) → Passed p records c change
-passed p records c change h =
-    let w : written_at (lowered_all p records) c change ≡ on_ok (lowered p) (written_at records c change) = ap (answered (written change)) (channel_lowered p records c) ∙ answered_on change p (channel_of records c) h in
+passed : (p : ℕ) (records : List Record) (c : ℕ) (edit : Edit) → turned_away p records c edit ≡ None → ((r : Record) → channel_of records c ≡ Some r → written edit (lowered p r) ≡ on_ok (lowered p) (written edit r)) → Passed p records c edit
+passed p records c edit t h =
+    let w : written_at (lowered_all p records) c edit ≡ on_ok (lowered p) (written_at records c edit) = ap (answered (written edit)) (channel_lowered p records c) ∙ answered_on edit p (channel_of records c) h in
     record {
-      answer = answer_on p (written_at records c change) ∙ ap answer_of (sym w);
-      after = after_on p (written_at records c change) records c ∙ ap (λ x. records_after x (lowered_all p records) c) (sym w);
+      answer = answer_on p (written_at records c edit) ∙ ap answer_of (sym w);
+      after = after_on p (written_at records c edit) records c ∙ ap (λ x. records_after x (lowered_all p records) c) (sym w);
+      through = t;
     }
 
-pub passed_plain : (p : ℕ) (records : List Record) (c : ℕ) (change : Change) → ((x : ℕ) → change ≢ Setpoint x) → Passed p records c change
-passed_plain p records c change h = passed p records c change (λ r _. passes change p r h)
+pub passed_plain : (p : ℕ) (records : List Record) (c : ℕ) (edit : Edit) → ((x : ℕ) → edit ≢ setpoint x) → Passed p records c edit
+passed_plain p records c edit h = passed p records c edit (none_turned edit p records c h) (λ r _. passes edit p r h)
 
 -- the fields that a channel was asked for are those of its record
 asked_some : (o : Option Record) (p : ℕ) (f : Fields) → Ok f ≡ answered (λ r. Ok (lowered_fields p r.fields)) o → (r : Record) → o ≡ Some r → f ≡ lowered_fields p r.fields
 asked_some (Some x) p f e r q = let same : x ≡ r = cc in let k : f ≡ lowered_fields p x.fields = cc in k ∙ ap (λ (y : Record). lowered_fields p y.fields) same
 asked_some None p f e r q = cc
 
-module _ (p : ℕ) (records : List Record) (c : ℕ) (f : Fields) (found : Ok f ≡ asked (λ r. r.fields) (lowered_all p records) c) where
-  there : Ok f ≡ answered (λ r. Ok (lowered_fields p r.fields)) (channel_of records c)
-  there = found ∙ sym (asked_below (λ r. Ok r.fields) p records c)
+-- and a setpoint that they admit is accepted
+accepted_under : (o : Option Record) (p x load : ℕ) (f : Fields) → Ok f ≡ answered (λ r. Ok (lowered_fields p r.fields)) o → Ok load ≡ admitted_under f.ceiling (value_of x)
+    → ◌≡◌ {A = Result (Unit {0}) ℕ} (answered (λ r. unless (refused_by (setpoint x) (lowered_fields p r.fields)) tt) o) (Ok tt)
+accepted_under (Some r) p x load f e a =
+    let k : f ≡ lowered_fields p r.fields = asked_some (Some r) p f e r refl in
+    let b : Ok load ≡ admitted_under (min p r.fields.ceiling) (value_of x) = a ∙ ap (λ (y : Fields). admitted_under y.ceiling (value_of x)) k in
+    rw (sym b) refl
+accepted_under None p x load f e a = cc
 
-  pub passed_setpoint : (x load : ℕ) → Ok load ≡ admitted_under f.ceiling (value_of x) → Passed p records c (Setpoint x)
-  passed_setpoint x load e = passed p records c (Setpoint x) (λ r q.
-      setpoint_passes x p load r (e ∙ ap (λ (y : Fields). admitted_under y.ceiling (value_of x)) (asked_some (channel_of records c) p f there r q)))
+module _ (p : ℕ) (records : List Record) (c : ℕ) (f : Fields) (found : Ok f ≡ asked (λ r. lowered_fields p r.fields) records c) where
+  pub passed_setpoint : (x load : ℕ) → Ok load ≡ admitted_under f.ceiling (value_of x) → Passed p records c (setpoint x)
+  passed_setpoint x load e =
+      let t : turned_away p records c (setpoint x) ≡ None = ap result_err (accepted_under (channel_of records c) p x load f found e) in
+      passed p records c (setpoint x) t (λ r q.
+      setpoint_passes x p load r (e ∙ ap (λ (y : Fields). admitted_under y.ceiling (value_of x)) (asked_some (channel_of records c) p f found r q)))

@@ -3,7 +3,7 @@ use Rattle.std.proofs.Common.{◌≡◌, ℕ, ◌-◌, ◌<◌, ◌≤◌, List,
 use Rattle.std.proofs.lemmas.List.{set-append_left, set-append_right}
 use Rattle.record.specs.declared.Record.{Record}
 use Rattle.combined.specs.declared.side_by_side.Side.TheVariants.{Left, Right}
-use Rattle.rack.specs.declared.changes.Change.{Change}
+use Rattle.rack.specs.Edits.{Edit}
 use Rattle.rack.specs.Meaning.{written_at, records_after}
 use Rattle.combined.specs.Sides.{FoundAt}
 
@@ -15,9 +15,9 @@ after_right : (w : Result Record ℕ) (l r r' : List Record) (channel c : ℕ) �
 after_right (Ok x) l r r' channel c same past e = rw (e, same) (sym (set-append_right l r (length l) channel x refl past))
 after_right (Err n) l r r' channel c same past e = ap (λ (xs : List Record). l ++ xs) e
 
-module _ (l r : List Record) (channel c : ℕ) (change : Change) where
-  pub records_left : (l' : List Record) → FoundAt l r channel (Left c) → l' ≡ records_after (written_at l c change) l c → l' ++ r ≡ records_after (written_at (l ++ r) channel change) (l ++ r) channel
-  records_left l' f e = rw f.0 (after_left (written_at l c change) l l' r channel c f.1 f.2 e)
+module _ (l r : List Record) (channel c : ℕ) (edit : Edit) where
+  pub records_left : (l' : List Record) → FoundAt l r channel (Left c) → l' ≡ records_after (written_at l c edit) l c → l' ++ r ≡ records_after (written_at (l ++ r) channel edit) (l ++ r) channel
+  records_left l' f e = rw f.0 (after_left (written_at l c edit) l l' r channel c f.1 f.2 e)
 
-  pub records_right : (r' : List Record) → FoundAt l r channel (Right c) → r' ≡ records_after (written_at r c change) r c → l ++ r' ≡ records_after (written_at (l ++ r) channel change) (l ++ r) channel
-  records_right r' f e = rw f.0 (after_right (written_at r c change) l r r' channel c f.1 f.2 e)
+  pub records_right : (r' : List Record) → FoundAt l r channel (Right c) → r' ≡ records_after (written_at r c edit) r c → l ++ r' ≡ records_after (written_at (l ++ r) channel edit) (l ++ r) channel
+  records_right r' f e = rw f.0 (after_right (written_at r c edit) l r r' channel c f.1 f.2 e)

@@ -1,4 +1,4 @@
-// Racks made of racks: a ceiling over any rack, and any two racks side by side.
+//! Racks made of racks: a ceiling over any rack, and any two racks side by side.
 #![tactic(auto)]
 
 mod ceiling;

@@ -1,5 +1,6 @@
+//! Two racks side by side.
 ghost use Rattle.std.specs.Prelude.{◌≡◌, ◌++◌, None, IfOk, OnErr};
-ghost use Rattle.combined.specs.Sides.{routed, FoundAt};
+ghost use Rattle.combined.specs.Sides.{routed, wrote_beside, FoundAt};
 ghost use Rattle.rack.specs.Meaning.{told, channel_of};
 ghost use Rattle.rack.specs.Refusals.{numbered};
 ghost use Rattle.std.proofs.ByRecursion.{All-append};
@@ -30,8 +31,10 @@ impl<L: Rack, R: Rack> SideBySide<L, R> {
     // Which rack a channel is of, and its number there.
     fn route(&self, channel: u8) -> Result<Side, RackRefusal>
         ensures value { numbered result ≡ routed (told (L.Rack.records self.now.left)) channel }
-        ensures found { IfOk result (FoundAt (L.Rack.records self.now.left) (R.Rack.records self.now.right) channel) }
-        ensures absent { OnErr result (channel_of (L.Rack.records self.now.left ++ R.Rack.records self.now.right) channel ≡ None) }
+        ensures found { IfOk result
+            (FoundAt (L.Rack.records self.now.left) (R.Rack.records self.now.right) channel) }
+        ensures absent { OnErr result
+            (channel_of (L.Rack.records self.now.left ++ R.Rack.records self.now.right) channel ≡ None) }
     {
         let left = self.left.count();
         if channel >= MAX_CHANNELS {
@@ -47,6 +50,10 @@ impl<L: Rack, R: Rack> SideBySide<L, R> {
 // The five matches stay: a closure for each side would name each method twice too, and no `dyn` may be handed out.
 impl<L: Rack, R: Rack> Rack for SideBySide<L, R> {
     ghost records = { λ s. L.Rack.records s.left ++ R.Rack.records s.right };
+
+    ghost wrote = { λ old new channel edit answer.
+        wrote_beside L.Rack.wrote R.Rack.wrote (routed (told (L.Rack.records old.left)) channel)
+        old.left new.left old.right new.right edit answer };
 
     ghost lawful = { λ s. All-append Lawful (L.Rack.records s.left) (R.Rack.records s.right) (L.Rack.lawful s.left) (R.Rack.lawful s.right) };
 

@@ -9,6 +9,7 @@ use Rattle.std.proofs.lemmas.Bool.{and_parts, leb-true, le-leb, lt-ltb, cond-tru
 use Rattle.rack.specs.Refusals.{numbered}
 use Rattle.rack.specs.declared.refusal.RackRefusal.{RackRefusal}
 use Rattle.setpoint.specs.Load.{load_of, fitting_load}
+use Rattle.setpoint.specs.Numbers.{full_load, most_full_scale}
 use Rattle.setpoint.specs.Share.{share_of}
 use Rattle.setpoint.specs.Value.{value_of}
 use Rattle.setpoint.proofs.Percents.{lawful_laws}
@@ -17,7 +18,7 @@ use Rattle.record.specs.declared.Fields.{Fields}
 use Rattle.record.specs.declared.Record.{Record}
 use Rattle.rack.specs.Meaning.{told, record_at, answered}
 use Rattle.rack.proofs.Channels.{channel_plain}
-use Rattle.header.specs.Shares.{fields_share, option_share, share_at, total_share, rack_share}
+use Rattle.header.specs.Shares.{fields_share, option_share, share_at, most_share, total_share, rack_share}
 
 -- a lawful setpoint has a load, of at most 102,400
 lawful_load : (r : Record) → Lawful r → Some (load_of (value_of r.fields.setpoint)) ≡ fitting_load (value_of r.fields.setpoint)
@@ -34,16 +35,16 @@ Drawn n f = MatchOption (fitting_load (value_of f.setpoint)) (n ≡ 0) (λ load.
 drawn_is : (r : Record) → Lawful r → (n : ℕ) → Drawn n r.fields → n ≡ fields_share r.fields
 drawn_is r h n d = rw (sym (lawful_load r h)) at d
 
-share_bound : (r : Record) → Lawful r → fields_share r.fields ≤ 102400000000
+share_bound : (r : Record) → Lawful r → fields_share r.fields ≤ most_share
 share_bound r h =
     let load = load_of (value_of r.fields.setpoint) in
     let scale = r.fields.full_scale in
-    let p = and_parts (leb 1 scale) (leb scale 1000000) h.fields.full_scale in
-    mul-le load scale 102400 1000000 ((lawful_laws r.fields.setpoint).bounded h.fields.setpoint.1) (leb-true scale 1000000 p.1)
+    let p = and_parts (leb 1 scale) (leb scale most_full_scale) h.fields.full_scale in
+    mul-le load scale full_load most_full_scale ((lawful_laws r.fields.setpoint).bounded h.fields.setpoint.1) (leb-true scale most_full_scale p.1)
 
 -- the share computed of the fields that a channel told
 pub told_share : (o : Option Record) → ((r : Record) → o ≡ Some r → Lawful r) → (a : Result Fields RackRefusal) → numbered a ≡ answered (λ x. Ok x.fields) o → (n : ℕ) → MatchResult a (Drawn n) (λ _. n ≡ 0)
-    → (n ≡ option_share o) × (n ≤ 102400000000)
+    → (n ≡ option_share o) × (n ≤ most_share)
 told_share (Some r) h (Ok f) e n d =
     let same : f ≡ r.fields = cc in
     let s = drawn_is r (h r refl) n (rw same at d) in

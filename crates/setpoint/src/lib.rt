@@ -35,6 +35,9 @@ const LOAD_DIGITS: u32 = 10;
 // The load of 1 percent: 1,024.
 const LOAD_PER_PERCENT: u32 = 1 << LOAD_DIGITS;
 
+/// The load of 100 percent: 102,400.
+pub const FULL_LOAD: u32 = 100 * LOAD_PER_PERCENT;
+
 // The smallest value is 2 ^ -149, so a load of 1 is 2 ^ 139 of them.
 const LOAD_EXPONENT: u32 = 149 - LOAD_DIGITS;
 
