@@ -7,6 +7,7 @@ use Rattle.std.specs.Option.{is_none}
 use Rattle.std.proofs.lemmas.Bool.{ne_eqb, lt-ltb, le-ltb}
 use Rattle.std.proofs.lemmas.List.{take_all, take-append-le}
 use Rattle.line.specs.Characters.{Character, received}
+use Rattle.line.specs.Marks.{marks_number}
 use Rattle.receiver.specs.Spans.{kept_length, Bytes}
 use Rattle.receiver.specs.Summaries.{Summary, summary_of}
 use Rattle.receiver.specs.Holding.{Holds, unmarked, span_characters, pending_of, pending}
@@ -104,8 +105,8 @@ kept_bytes p bytes None m h = led_bytes p _ (span_bytes m (take 264 bytes ++ 0 â
 -- EVERY RECEIVER holds some characters.
 pub holds_pending : (r : Receiver) â†’ Holds r (pending r)
 holds_pending r = record {
-  bytes = kept_bytes r.preambles r.bytes r.len r.marks r.fit;
-  kept = kept_summary r.preambles r.bytes r.len r.marks (record {
+  bytes = kept_bytes r.preambles r.bytes r.len (marks_number r.marks) r.fit;
+  kept = kept_summary r.preambles r.bytes r.len (marks_number r.marks) (record {
     counted = r.counted;
     room = r.room;
     within = r.within;

@@ -2,6 +2,7 @@
 use Rattle.std.specs.Prelude.{ℕ, ◌+◌, min, Bool, true, ◌&&◌, List, [], ◌∷◌, ◌++◌, length, take, Some, None, Option, ◌==◌, bit_or, nat_lt, if◌then◌else◌}
 use Rattle.std.specs.Option.{is_none}
 use Rattle.line.specs.Characters.{Character, Reception}
+use Rattle.line.specs.Marks.{marks_number}
 use Rattle.receiver.specs.Spans.{longest_span, counted_preambles, kept_length}
 use Rattle.receiver.specs.declared.state.Receiver.{Receiver}
 
@@ -41,11 +42,11 @@ held r = record {
   preambles = r.preambles;
   span = take (kept_length r.len) r.bytes;
   overlong = is_none r.len;
-  marks = r.marks;
+  marks = marks_number r.marks;
 }
 
 -- what is handed on of a transmission that is not too long
-abbrev pub reception : Summary → Option Reception
-reception s =
+abbrev pub handed_on : Summary → Option Reception
+handed_on s =
     if s.overlong then None
     else Some (record { preambles = s.preambles; span = s.span; marks = s.marks })

@@ -2,13 +2,14 @@
 
 ghost use Rattle.std.specs.Prelude.{◌≡◌, []};
 ghost use Rattle.std.specs.Option.{option_map};
-ghost use Rattle.line.specs.Views.{heard};
+ghost use Rattle.line.specs.Marks.{marks_number};
+ghost use Rattle.line.specs.Views.{reception};
 ghost use Rattle.receiver.specs.Holding.{Holds, HoldsMore, character, pending};
-ghost use Rattle.receiver.specs.Summaries.{pushed, held, reception};
+ghost use Rattle.receiver.specs.Summaries.{pushed, held, handed_on};
 
 use crate::state::{MAX_SPAN, Receiver};
 use frame::{MIN_PREAMBLES, PREAMBLE};
-use line::Received;
+use line::{Marks, Received};
 
 impl Receiver {
     /// Nothing heard yet.
@@ -19,7 +20,7 @@ impl Receiver {
             preambles: 0,
             bytes: [0; MAX_SPAN],
             len: Some(0),
-            marks: 0,
+            marks: Marks::NONE,
         }
     }
 
@@ -29,20 +30,20 @@ impl Receiver {
     {
         self.preambles = 0;
         self.len = Some(0);
-        self.marks = 0;
+        self.marks = Marks::NONE;
     }
 
     /// One character more.
-    pub fn push(&mut self, byte: u8, marks: u8)
-        ensures after { held self.new ≡ pushed (held self.old) (character byte marks) }
-        ensures holds { HoldsMore self.old self.new (character byte marks) }
+    pub fn push(&mut self, byte: u8, marks: Marks)
+        ensures after { held self.new ≡ pushed (held self.old) (character byte (marks_number marks)) }
+        ensures holds { HoldsMore self.old self.new (character byte (marks_number marks)) }
     {
         self.keep(byte, marks);
     }
 
     // Apart from `push`, whose second clause is proved from what this one ensures.
-    fn keep(&mut self, byte: u8, marks: u8)
-        ensures { held self.new ≡ pushed (held self.old) (character byte marks) }
+    fn keep(&mut self, byte: u8, marks: Marks)
+        ensures { held self.new ≡ pushed (held self.old) (character byte (marks_number marks)) }
     {
         match &mut self.len {
             Some(0) if byte == PREAMBLE => {
@@ -55,12 +56,12 @@ impl Receiver {
             }
             _ => self.len = None,
         }
-        self.marks |= marks;
+        self.marks = self.marks.or(marks);
     }
 
     /// What was received, unless it is too long to be whole.
     pub fn received(&self) -> Option<Received<'_>>
-        ensures value { option_map heard result ≡ reception (held self.now) }
+        ensures value { option_map reception result ≡ handed_on (held self.now) }
         ensures holds { Holds self.now (pending self.now) }
     {
         Some(Received {

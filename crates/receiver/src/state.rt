@@ -1,7 +1,10 @@
 //! What a panel keeps of a transmission.
 
 ghost use Rattle.std.specs.Prelude.{◌≡◌, ◌≢◌, ◌<◌, ◌≤◌, length, slice_index};
+ghost use Rattle.line.specs.Marks.{marks_number};
 ghost use Rattle.receiver.specs.Spans.{longest_span, counted_preambles, kept_length, Bytes, Bytes-prop};
+
+use line::Marks;
 
 /// No whole transmission has more bytes from its start on.
 pub(crate) const MAX_SPAN: usize = 264;
@@ -17,7 +20,7 @@ pub struct Receiver {
     pub(crate) bytes: [u8; MAX_SPAN],
     pub(crate) len: Option<usize>,
     // All marks from the start on together.
-    pub(crate) marks: u8,
+    pub(crate) marks: Marks,
     ghost counted: { preambles ≤ counted_preambles },
     ghost room: { length bytes ≡ longest_span },
     ghost fit: { Bytes bytes } by { Bytes-prop bytes },
@@ -25,5 +28,5 @@ pub struct Receiver {
     // A span does not begin with a preamble.
     ghost begun: { 0 < kept_length len → slice_index bytes 0 ≢ 255 },
     // Marks begin with the span.
-    ghost unmarked: { kept_length len ≡ 0 → marks ≡ 0 },
+    ghost unmarked: { kept_length len ≡ 0 → marks_number marks ≡ 0 },
 }
