@@ -61,7 +61,8 @@ own_given? command bytes fields NotImplemented = is_none command
 own_given? command bytes fields ByteCount = known? (λ c. not (counted? c bytes)) command
 own_given? command bytes fields WriteProtected = known? writes? command && not fields.key_open
 own_given? command bytes fields InvalidSelection =
-    known? (λ c. wrong_unit? bytes c || refuses? (code_number InvalidSelection) bytes fields c) command
+    known? (λ c. wrong_unit? bytes c || refuses? (code_number InvalidSelection) bytes fields c)
+    command
 own_given? command bytes fields TooSmall =
     known? (refuses? (code_number TooSmall) bytes fields) command
 own_given? command bytes fields TooLarge =

@@ -58,9 +58,9 @@ count_of WriteSetpoint = Some 5
 abbrev pub commands : List Command
 commands =
     ReadUniqueIdentifier ∷ ReadPrimaryVariable ∷ WritePollingAddress ∷ ReadUniqueIdentifierByTag
-    ∷ ReadMessage ∷ ReadTagDescriptorDate ∷ ReadAssemblyNumber ∷ WriteMessage ∷ WriteTagDescriptorDate
-    ∷ WriteAssemblyNumber ∷ ResetConfigurationChanged ∷ WritePreambles ∷ ReadSetpoint ∷ WriteSetpoint
-    ∷ []
+    ∷ ReadMessage ∷ ReadTagDescriptorDate ∷ ReadAssemblyNumber ∷ WriteMessage
+    ∷ WriteTagDescriptorDate ∷ WriteAssemblyNumber ∷ ResetConfigurationChanged ∷ WritePreambles
+    ∷ ReadSetpoint ∷ WriteSetpoint ∷ []
 
 -- the command of a number, where a channel knows one
 abbrev pub command_of : ℕ → Option Command

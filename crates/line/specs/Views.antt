@@ -1,5 +1,5 @@
 -- What the structs of the code say, with lists in the place of references.
-use Rattle.std.specs.Prelude.{ℕ, true, List, ◌++◌, take, IfOk, Result}
+use Rattle.std.specs.Prelude.{ℕ, ◌≤◌, true, List, ◌++◌, length, take, IfOk, Result}
 use Rattle.std.specs.Option.{option_map, option_to_list}
 use Rattle.refusals.specs.Filling.{Fills}
 use Rattle.refusals.specs.Refusals.{numbered}
@@ -7,7 +7,7 @@ use Rattle.refusals.specs.declared.Refusal.{Refusal}
 use Rattle.frame.specs.Views.{frame_parts}
 use Rattle.frame.specs.declared.Frame.{Frame}
 use Rattle.record.specs.declared.Record.{Record}
-use Rattle.line.specs.Answers.{AnswersBy}
+use Rattle.line.specs.Answers.{AnswersBy, max_answer}
 use Rattle.rack.specs.Edits.{Edit, edit_of}
 use Rattle.line.specs.Characters.{Reception}
 use Rattle.line.specs.Judgements.{Judgement, damaged, refused, accepted, answer_bytes}
@@ -43,10 +43,12 @@ edits_in c =
 abbrev pub answer_to : Frame → JudgementOfCode → Record → List ℕ
 answer_to f j r = answer_bytes (frame_parts f) (judged j) r
 
--- a call that makes an answer in the front of a lent buffer: 102 where it is too short, and no other
--- refusal
-abbrev pub MakesAnswer : List ℕ → List ℕ → Result ℕ Refusal → List ℕ → Type 0
-MakesAnswer bytes before result after = Fills true bytes before (numbered result) after
+-- a call that makes it in the front of a lent buffer: 102 where that is too short, and no other refusal
+abbrev pub MakesAnswer : Frame → JudgementOfCode → Record → List ℕ → Result ℕ Refusal → List ℕ → Type 0
+MakesAnswer f j r before result after = Fills true (answer_to f j r) before (numbered result) after
+
+abbrev pub ShortAnswer : Frame → JudgementOfCode → Record → Type 0
+ShortAnswer f j r = length (answer_to f j r) ≤ max_answer
 
 -- what it made is by the law of answers, to a frame, with the preambles of this record
 abbrev pub KeepsAnswerLaw : Frame → Record → Result ℕ Refusal → List ℕ → Type 0

@@ -29,7 +29,8 @@ pub fn judge<'a, A: Allotting>(
     allotting: &A,
 ) -> Judgement<'a>
     ensures value { judged result
-        ≡ judgement (reception received.entry) (frame_parts frame.entry) fields (A.allotment allotting.now) }
+        ≡ judgement (reception received.entry) (frame_parts frame.entry) fields
+        (A.allotment allotting.now) }
     ensures writable { Writable (judged result) fields }
 {
     if !received.is_sound() {
@@ -56,7 +57,8 @@ pub fn response_code<A: Allotting>(
     allotting: &A,
 ) -> ResponseCode
     ensures value { result ≡ code_of command «data».now fields (A.allotment allotting.now) }
-    ensures first { FirstGiven (given? command «data».now fields (A.allotment allotting.now)) result }
+    ensures first { FirstGiven (given? command «data».now fields (A.allotment allotting.now))
+        result }
 {
     match command {
         None => ResponseCode::NotImplemented,

@@ -1,4 +1,5 @@
-//! What a transmission means to one channel: whether it is meant, how it judges it, what it writes, which bytes answer.
+//! What a transmission means to one channel: whether it is meant, how it judges it, what it writes,
+//! which bytes answer.
 #![tactic(auto)]
 
 mod accepted;

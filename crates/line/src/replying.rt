@@ -4,10 +4,9 @@ ghost use Rattle.std.specs.Prelude.{◌≡◌, ◌+◌, ◌≤◌, [], ◌∷◌
 ghost use Rattle.record.specs.Lawful.{LawfulFields};
 ghost use Rattle.record.specs.TextParts.{labels, message, part_of};
 ghost use Rattle.record.specs.declared.Record.{Record as ChannelRecord};
-ghost use Rattle.line.specs.Answers.{max_answer};
 ghost use Rattle.line.specs.Judgements.{carried, second_for};
 ghost use Rattle.line.specs.Replies.{reply_data};
-ghost use Rattle.line.specs.Views.{judged, answer_to, MakesAnswer, KeepsAnswerLaw};
+ghost use Rattle.line.specs.Views.{judged, MakesAnswer, ShortAnswer, KeepsAnswerLaw};
 
 use crate::accepted::AcceptedCommand;
 use crate::commands::Command;
@@ -67,9 +66,9 @@ pub fn reply<S: ReplySource>(
     source: &S,
     out: &mut [u8],
 ) -> Result<usize, Refusal>
-    ensures fills { MakesAnswer (answer_to frame.entry judgement.entry (S.channel_record source.now))
+    ensures fills { MakesAnswer frame.entry judgement.entry (S.channel_record source.now)
         out.old result out.new }
-    ensures short { length (answer_to frame.entry judgement.entry (S.channel_record source.now)) ≤ max_answer }
+    ensures short { ShortAnswer frame.entry judgement.entry (S.channel_record source.now) }
     ensures law { KeepsAnswerLaw frame.entry (S.channel_record source.now) result out.new }
 {
     let fields = source.fields();
@@ -135,7 +134,8 @@ fn put_data<S: ReplySource>(
     requires room { length content.old.items ≡ 2 }
     ensures { content.new.items
         ≡ content.old.items
-        ++ reply_data accepted.entry.command accepted.entry.«data».now (S.channel_record source.now) }
+        ++ reply_data accepted.entry.command accepted.entry.«data».now
+        (S.channel_record source.now) }
 {
     match accepted.command {
         Command::ReadUniqueIdentifier | Command::ReadUniqueIdentifierByTag => {
