@@ -7,11 +7,12 @@ use Rattle.std.proofs.lemmas.List.Sums.{fold_push}
 use Rattle.std.proofs.lemmas.Bool.Decides.{nat_tests}
 use Rattle.std.proofs.ByRecursion.{All-drop}
 use Rattle.frame.specs.Check.{check_of}
-use Rattle.frame.specs.Frames.{Parts, Framed, StartFrame, request_frame, short_request, long_request}
-use Rattle.frame.specs.Transmissions.{preambles_of, span_of, parts_with, Request, Sent, Transmits, request_of, read_span, read_request}
+use Rattle.frame.specs.Frames.{Parts, Framed, StartFrame, start_frame, short_request, long_request}
+use Rattle.frame.specs.Transmissions.{preambles_of, span_of, parts_with, Request, Sent, Transmits, request_of, read_request}
+use Rattle.frame.specs.Reading.{sent_span, read_sent}
 use Rattle.frame.specs.Making.{request?, start_for, checked, frame_bytes, sent, transmission, MadeAgain}
 use Rattle.std.specs.List.{AllByRecursion}
-use Rattle.frame.proofs.Frames.{request_read, read_request_lem, data_limit}
+use Rattle.frame.proofs.Frames.{start_read, read_start, data_limit}
 
 -- the preambles before bytes that begin with none
 preambles_led : (n : ℕ) (span : List ℕ) → preambles_of span ≡ 0 → preambles_of (replicate n 255 ++ span) ≡ n
@@ -45,34 +46,37 @@ module _ (short long : ℕ) (a : eqb short 255 ≡ false) (b : eqb long 255 ≡ 
   pub span_sent : (q : Request) (bytes : List ℕ) (h : Sent (StartFrame short long) q bytes) → span_of bytes ≡ h.span
   span_sent q bytes h = rw (preambles_sent q bytes h) (rw h.spelled (span_led q.preambles h.span))
 
--- what the relation says, the reader finds
-pub complete : (q : Request) (bytes : List ℕ) → Transmits q bytes → read_request bytes ≡ Ok q
-complete q bytes h =
-    let n = preambles_sent short_request long_request refl refl q bytes h in
-    let s = span_sent short_request long_request refl refl q bytes h in
-    let t = and_from (leb 2 q.preambles) (eqb (check_of h.span) 0) (le-leb 2 q.preambles h.led) (eq-eqb (check_of h.span) 0 h.sound) in
-    ap (λ m. read_span m (span_of bytes)) n ∙ (ap (read_span q.preambles) s ∙ (cond-true _ _ _ t ∙ ap (request_of q.preambles) (request_read h.span (parts_with q h.check) h.framed)))
-
 unwrapped : (n : ℕ) (r : Result Parts ℕ) (q : Request) → request_of n r ≡ Ok q → (f : Parts) × (r ≡ Ok f) × (record { preambles = n; address = f.address; command = f.command; «data» = f.«data» } ≡ q)
 unwrapped n (Ok f) q e = (f, refl, cc)
 unwrapped n (Err k) q e = let z : ◌≡◌ {A = ℕ} 0 1 = cc in absurd (omega arith)
 
--- what the reader finds, the relation says
-pub reads : (q : Request) (bytes : List ℕ) → read_request bytes ≡ Ok q → Transmits q bytes
-reads q bytes e = elim (cases_Bool (leb 2 (preambles_of bytes) && eqb (check_of (span_of bytes)) 0)) [
-  | inl t ↦
-      let p = and_parts (leb 2 (preambles_of bytes)) (eqb (check_of (span_of bytes)) 0) t in
-      let u = unwrapped (preambles_of bytes) (request_frame (span_of bytes)) q (rw t at e) in
-      subst (λ (x : Request). Transmits x bytes) u.2 (record {
-        span = span_of bytes;
-        check = u.0.check;
-        led = leb-true 2 (preambles_of bytes) p.0;
-        spelled = led bytes;
-        framed = read_request_lem (span_of bytes) u.0 u.1;
-        sound = eqb-true (check_of (span_of bytes)) 0 p.1;
-      })
-  | inr t ↦ let z : ◌≡◌ {A = ℕ} 0 1 = let h = rw t at e in cc in absurd (omega arith)
-]
+-- what the relation says, the reader finds, and the other way round: for two start bytes that differ, neither of them a preamble
+module _ (short long : ℕ) (differ : eqb long short ≡ false) (a : eqb short 255 ≡ false) (b : eqb long 255 ≡ false) (q : Request) (bytes : List ℕ) where
+  pub complete_sent : Sent (StartFrame short long) q bytes → read_sent short long bytes ≡ Ok q
+  complete_sent h =
+      let n = preambles_sent short long a b q bytes h in
+      let s = span_sent short long a b q bytes h in
+      let t = and_from (leb 2 q.preambles) (eqb (check_of h.span) 0) (le-leb 2 q.preambles h.led) (eq-eqb (check_of h.span) 0 h.sound) in
+      ap (λ m. sent_span short long m (span_of bytes)) n ∙ (ap (sent_span short long q.preambles) s ∙ (cond-true _ _ _ t ∙ ap (request_of q.preambles) (start_read short long differ h.span (parts_with q h.check) h.framed)))
+
+  pub reads_sent : read_sent short long bytes ≡ Ok q → Sent (StartFrame short long) q bytes
+  reads_sent e = elim (cases_Bool (leb 2 (preambles_of bytes) && eqb (check_of (span_of bytes)) 0)) [
+    | inl t ↦
+        let p = and_parts (leb 2 (preambles_of bytes)) (eqb (check_of (span_of bytes)) 0) t in
+        let u = unwrapped (preambles_of bytes) (start_frame short long (span_of bytes)) q (rw t at e) in
+        subst (λ (x : Request). Sent (StartFrame short long) x bytes) u.2 (record {
+          span = span_of bytes;
+          check = u.0.check;
+          led = leb-true 2 (preambles_of bytes) p.0;
+          spelled = led bytes;
+          framed = read_start short long differ (span_of bytes) u.0 u.1;
+          sound = eqb-true (check_of (span_of bytes)) 0 p.1;
+        })
+    | inr t ↦ let z : ◌≡◌ {A = ℕ} 0 1 = let h = rw t at e in cc in absurd (omega arith)
+  ]
+
+pub complete : (q : Request) (bytes : List ℕ) → Transmits q bytes → read_request bytes ≡ Ok q
+complete = complete_sent short_request long_request refl refl refl
 
 -- the check behind the bytes that it is of
 checked_sound : (bytes : List ℕ) → check_of (checked bytes) ≡ 0

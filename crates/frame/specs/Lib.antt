@@ -3,3 +3,4 @@ pub mod Frames
 pub mod Transmissions
 pub mod Making
 pub mod Views
+pub mod Reading

@@ -15,7 +15,7 @@ mod reader;
 
 pub use checks::check;
 pub use maker::{make_reply, make_request};
-pub use reader::{count_preambles, read_frame, read_request};
+pub use reader::{count_preambles, read_frame, read_reply, read_request};
 use refusals::Refusal;
 
 /// The master that sends a request.
@@ -120,13 +120,9 @@ struct StartBytes {
     long: u8,
 }
 
-const SHORT_REQUEST: u8 = 0x02;
-
-const LONG_REQUEST: u8 = 0x82;
-
 const REQUEST: StartBytes = StartBytes {
-    short: SHORT_REQUEST,
-    long: LONG_REQUEST,
+    short: 0x02,
+    long: 0x82,
 };
 
 const REPLY: StartBytes = StartBytes {

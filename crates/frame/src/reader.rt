@@ -1,12 +1,13 @@
 //! Reads frames and transmissions.
 
 ghost use Rattle.std.specs.Prelude.{◌≡◌, ◌≤◌, length, OnOk};
-ghost use Rattle.frame.specs.Frames.{request_frame, frame_after, longest_frame};
+ghost use Rattle.frame.specs.Frames.{request_frame, start_frame, frame_after, longest_frame};
+ghost use Rattle.frame.specs.Reading.{read_sent, read_reply, ReplyMeans};
 ghost use Rattle.frame.specs.Transmissions.{preambles_of, read_request};
 ghost use Rattle.frame.specs.Views.{address_bytes, frame_parts, request_parts, viewed, FrameMeans, RequestMeans, SentAgain};
 
 use crate::{
-    Address, Frame, LONG_REQUEST, MIN_PREAMBLES, PREAMBLE, SHORT_REQUEST, Transmission, check,
+    Address, Frame, MIN_PREAMBLES, PREAMBLE, REPLY, REQUEST, StartBytes, Transmission, check,
 };
 use refusals::Refusal;
 
@@ -16,18 +17,15 @@ pub fn read_request(bytes: &[u8]) -> Result<Transmission<'_>, Refusal>
     ensures means { RequestMeans result bytes.now }
     ensures again { SentAgain result bytes.now }
 {
-    let preambles = count_preambles(bytes);
-    let span = &bytes[preambles..];
-    if preambles < MIN_PREAMBLES || check(span) != 0 {
-        return Err(Refusal::OutOfForm);
-    }
-    let frame = read_frame(span)?;
-    Ok(Transmission {
-        preambles,
-        address: frame.address,
-        command: frame.command,
-        data: frame.data,
-    })
+    read(REQUEST, bytes)
+}
+
+/// Reads a reply in the same way. Its data begin with the two status bytes.
+pub fn read_reply(bytes: &[u8]) -> Result<Transmission<'_>, Refusal>
+    ensures value { viewed request_parts result ≡ read_reply bytes.now }
+    ensures means { ReplyMeans result bytes.now }
+{
+    read(REPLY, bytes)
 }
 
 /// Reads a request's frame from the bytes that begin with its start byte: 110 unless it is whole. Its check is not judged
@@ -37,9 +35,34 @@ pub fn read_frame(span: &[u8]) -> Result<Frame<'_>, Refusal>
     ensures means { FrameMeans result span.now }
     ensures limit { OnOk result (length span.now ≤ longest_frame) }
 {
+    frame_in(REQUEST, span)
+}
+
+// Reads a transmission of a kind of frame.
+fn read(kind: StartBytes, bytes: &[u8]) -> Result<Transmission<'_>, Refusal>
+    ensures { viewed request_parts result ≡ read_sent kind.short kind.long bytes.now }
+{
+    let preambles = count_preambles(bytes);
+    let span = &bytes[preambles..];
+    if preambles < MIN_PREAMBLES || check(span) != 0 {
+        return Err(Refusal::OutOfForm);
+    }
+    let frame = frame_in(kind, span)?;
+    Ok(Transmission {
+        preambles,
+        address: frame.address,
+        command: frame.command,
+        data: frame.data,
+    })
+}
+
+// The frame of a kind: its start byte tells the width of its address.
+fn frame_in(kind: StartBytes, span: &[u8]) -> Result<Frame<'_>, Refusal>
+    ensures { viewed frame_parts result ≡ start_frame kind.short kind.long span.now }
+{
     match span {
-        [SHORT_REQUEST, a, rest @ ..] => frame_after(Address::Short([*a]), rest),
-        [LONG_REQUEST, a, b, c, d, e, rest @ ..] => {
+        [start, a, rest @ ..] if *start == kind.short => { frame_after(Address::Short([*a]), rest) }
+        [start, a, b, c, d, e, rest @ ..] if *start == kind.long => {
             frame_after(Address::Long([*a, *b, *c, *d, *e]), rest)
         }
         _ => Err(Refusal::OutOfForm),
