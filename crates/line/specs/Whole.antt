@@ -1,9 +1,11 @@
 -- Whole and sound transmissions, and how damage is answered.
-use Rattle.std.specs.Prelude.{◌≡◌, ℕ, ◌+◌, Bool, true, if◌then◌else◌, not, ◌&&◌, ◌↔◌, List, Some, None, Option, ◌==◌, nat_le}
+use Rattle.std.specs.Prelude.{◌≡◌, ℕ, ◌+◌, ◌≤◌, Bool, true, if◌then◌else◌, not, ◌&&◌, ◌↔◌, List, MatchOption, Some, None, Option, ◌==◌, nat_le}
 use Rattle.std.specs.List.{AllByRecursion}
 use Rattle.std.specs.Result.{result_ok}
 use Rattle.frame.specs.Check.{check_of}
-use Rattle.frame.specs.Frames.{Parts, request_frame}
+use Rattle.frame.specs.Frames.{Parts, RequestFrame, request_frame}
+use Rattle.frame.specs.Views.{frame_parts}
+use Rattle.frame.specs.declared.Frame.{Frame}
 use Rattle.frame.specs.Transmissions.{Request, Transmits, span_of}
 use Rattle.record.specs.Bytes.{bit?}
 use Rattle.line.specs.Characters.{Character, Reception, Keeps, bytes_in, from_start, marked?, least_preambles}
@@ -11,6 +13,13 @@ use Rattle.line.specs.Characters.{Character, Reception, Keeps, bytes_in, from_st
 -- the frame of a whole transmission: at least two preambles, a request's frame and nothing more
 abbrev pub frame_of : Reception → Option Parts
 frame_of x = if nat_le least_preambles x.preambles then result_ok (request_frame x.span) else None
+
+-- a frame is told exactly where the transmission is whole: at least two preambles, and a request's frame
+-- by the frame relation
+abbrev pub TellsWhole : Reception → Option Frame → Type 0
+TellsWhole x told =
+    MatchOption told ((p : Parts) → least_preambles ≤ x.preambles → RequestFrame x.span p → ⊥)
+    (λ f. (least_preambles ≤ x.preambles) × RequestFrame x.span (frame_parts f))
 
 -- a whole transmission is sound if no character from the start on is marked and its exclusive or is
 -- 0

@@ -4,7 +4,7 @@ ghost use Rattle.std.specs.Prelude.{◌≡◌};
 ghost use Rattle.std.specs.Option.{option_map};
 ghost use Rattle.frame.specs.Views.{frame_parts};
 ghost use Rattle.line.specs.Views.{reception};
-ghost use Rattle.line.specs.Whole.{frame_of, sound?, error_status, TellsSound, TellsDamage};
+ghost use Rattle.line.specs.Whole.{frame_of, sound?, error_status, TellsWhole, TellsSound, TellsDamage};
 
 use crate::marks::Marks;
 use frame::{Frame, MIN_PREAMBLES};
@@ -24,6 +24,7 @@ impl<'a> Received<'a> {
     /// The frame of a whole transmission, sound or not.
     pub fn frame(self) -> Option<Frame<'a>>
         ensures value { option_map frame_parts result ≡ frame_of (reception self.entry) }
+        ensures whole { TellsWhole (reception self.entry) result }
     {
         if self.preambles < MIN_PREAMBLES {
             return None;
