@@ -1,8 +1,9 @@
 -- What a trace tells, read from its calls and results alone, never from a state.
 use Rattle.std.specs.Prelude.{ℕ, suc, if◌then◌else◌, List, [], ◌∷◌, ◌++◌, map, Some, None, Option, ◌==◌}
+use Rattle.line.specs.Answers.{answer_room}
 use Rattle.runs.specs.Devices.{Device}
 use Rattle.runs.specs.Shares.{sum_of, sum_but}
-use Rattle.runs.specs.Traces.{Rack, Pending, Call, Result, Trace, character, gap, local, taken, refused, silent, answered, gap_room, ◌▸◌}
+use Rattle.runs.specs.Traces.{Rack, Pending, Call, Result, Trace, character, gap, local, taken, refused, silent, answered, ◌▸◌}
 
 module _ (D : Device) where
   -- the pending characters, once a call has a result: an answered or a silent gap ends the transmission
@@ -118,7 +119,7 @@ module _ (D : Device) where
     | silent ↦ []
     | answered j a ↦
         if D.denial? a then [] else
-        (if j == place then taken_characters pending ++ ((gap gap_room ▸ answered 0 a) ∷ []) else [])
+        (if j == place then taken_characters pending ++ ((gap answer_room ▸ answered 0 a) ∷ []) else [])
   ]
   lone_at place pending (local j operation) result = if j == place then (local 0 operation ▸ result) ∷ [] else []
 

@@ -1,9 +1,10 @@
 -- What every run of a panel keeps.
 use Rattle.std.specs.Prelude.{◌≡◌, ℕ, ◌+◌, ◌<◌, ◌≤◌, true, ◌⊎◌, ◌↔◌, List, [], ◌∷◌, ◌++◌, map, length}
+use Rattle.line.specs.Answers.{answer_room}
 use Rattle.runs.specs.Devices.{Device}
 use Rattle.runs.specs.Places.{At, OnlyAt}
 use Rattle.runs.specs.Shares.{total}
-use Rattle.runs.specs.Traces.{Rack, Pending, Call, Result, Trace, character, gap, silent, answered, gap_room, ◌▸◌}
+use Rattle.runs.specs.Traces.{Rack, Pending, Call, Result, Trace, character, gap, silent, answered, ◌▸◌}
 use Rattle.runs.specs.Steps.{Step, Run}
 use Rattle.runs.specs.Histories.{pending_after, granted, Standing, standings, granted_total, granted_others, answers_of, local_results_of, lone}
 
@@ -34,7 +35,7 @@ module _ (D : Device) where
   pub record TakenGap (trace before : Trace D) (n : ℕ) (result : Result D) : Type 0 where
     pub after : Trace D
     pub next : trace ≡ before ++ ((gap n ▸ result) ∷ after)
-    pub room : gap_room ≤ n
+    pub room : answer_room ≤ n
 
   -- silence, or an answer that only tells a communication error
   abbrev pub ErrorAtMost : Result D → Type 0

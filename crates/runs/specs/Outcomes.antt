@@ -2,11 +2,12 @@
 use Rattle.std.specs.Prelude.{◌≡◌, ℕ, ◌+◌, Bool, if◌then◌else◌, ◌&&◌, [], ◌∷◌, ◌++◌, Some, None, Option, nat_lt, slice_set, slice_get}
 use Rattle.refusals.specs.Refusals.{number_of}
 use Rattle.refusals.specs.declared.Refusal.TheVariants.{NoChannel, ShortBuffer, Marks}
+use Rattle.line.specs.Answers.{answer_room}
 use Rattle.runs.specs.Devices.{Device}
 use Rattle.runs.specs.Places.{only_place}
 use Rattle.runs.specs.Shares.{others}
 use Rattle.runs.specs.Steps.{Step}
-use Rattle.runs.specs.Traces.{Rack, Pending, Call, Result, Interaction, character, gap, local, taken, refused, silent, answered, gap_room, ◌▸◌, local_result}
+use Rattle.runs.specs.Traces.{Rack, Pending, Call, Result, Interaction, character, gap, local, taken, refused, silent, answered, ◌▸◌, local_result}
 
 module _ (D : Device) where
   -- the result of a call, and records and pending characters after it
@@ -52,7 +53,7 @@ module _ (D : Device) where
       then outcome_of taken records (pending ++ (c ∷ []))
       else outcome_of (refused (number_of Marks)) records pending
   outcome capacity records pending (gap n) =
-      if nat_lt n gap_room
+      if nat_lt n answer_room
       then outcome_of (refused (number_of ShortBuffer)) records pending
       else ended capacity records pending (sole records pending)
   outcome capacity records pending (local place operation) =

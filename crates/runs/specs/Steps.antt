@@ -2,10 +2,11 @@
 use Rattle.std.specs.Prelude.{◌≡◌, ℕ, ◌+◌, ◌<◌, ◌≤◌, true, false, [], ◌∷◌, ◌++◌, slice_set}
 use Rattle.refusals.specs.Refusals.{number_of}
 use Rattle.refusals.specs.declared.Refusal.TheVariants.{NoChannel, ShortBuffer, Marks}
+use Rattle.line.specs.Answers.{answer_room}
 use Rattle.runs.specs.Devices.{Device}
 use Rattle.runs.specs.Places.{At, OnlyAt}
 use Rattle.runs.specs.Shares.{others}
-use Rattle.runs.specs.Traces.{Rack, Pending, Interaction, Trace, character, gap, local, taken, refused, silent, answered, gap_room, ◌▸◌, local_result}
+use Rattle.runs.specs.Traces.{Rack, Pending, Interaction, Trace, character, gap, local, taken, refused, silent, answered, ◌▸◌, local_result}
 
 module _ (D : Device) where
   -- the transmission means the channel at this place, and no other
@@ -20,17 +21,17 @@ module _ (D : Device) where
     refuses : {records : Rack D} {pending : Pending D} {c : D.Character} → D.acceptable? c ≡ false
         → Step capacity records pending (character c ▸ refused (number_of Marks)) records pending
     -- too little room for an answer: the transmission goes on
-    short : {records : Rack D} {pending : Pending D} {n : ℕ} → n < gap_room
+    short : {records : Rack D} {pending : Pending D} {n : ℕ} → n < answer_room
         → Step capacity records pending (gap n ▸ refused (number_of ShortBuffer)) records pending
-    nobody : {records : Rack D} {pending : Pending D} {n : ℕ} → gap_room ≤ n
+    nobody : {records : Rack D} {pending : Pending D} {n : ℕ} → answer_room ≤ n
         → ((place : ℕ) (r : D.Record) → At records place r → Only records pending place → ⊥)
         → Step capacity records pending (gap n ▸ silent) records []
     serves : {records : Rack D} {pending : Pending D} {n place : ℕ} {r : D.Record}
-        → gap_room ≤ n → At records place r → Only records pending place
+        → answer_room ≤ n → At records place r → Only records pending place
         → (D.asks? r pending ≡ true → others D records place + D.asked (D.nameplate r) pending ≤ capacity)
         → Step capacity records pending (gap n ▸ answered place (D.reply r pending)) (slice_set records place (D.served r pending)) []
     denies : {records : Rack D} {pending : Pending D} {n place : ℕ} {r : D.Record}
-        → gap_room ≤ n → At records place r → Only records pending place
+        → answer_room ≤ n → At records place r → Only records pending place
         → D.asks? r pending ≡ true → capacity < others D records place + D.asked (D.nameplate r) pending
         → Step capacity records pending (gap n ▸ answered place (D.denial r pending)) records []
     operates : {records : Rack D} {pending : Pending D} {place : ℕ} {operation : D.Operation} {r : D.Record} → At records place r

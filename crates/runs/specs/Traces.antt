@@ -31,10 +31,6 @@ module _ (D : Device) where
   abbrev pub Trace : Type 0
   Trace = List Interaction
 
--- the room that a taken gap wants: a buffer of so many bytes
-abbrev pub gap_room : ℕ
-gap_room = 64
-
 module _ {D : Device} where
   infix 70 ◌▸◌
   abbrev pub ◌▸◌ : Call D → Result D → Interaction D
