@@ -1,10 +1,11 @@
-// Racks of every kind under one generic function, and tests of them.
+//! Racks of every kind under one generic function, and tests of them.
 #![tactic(auto)]
 
-ghost use Rattle.std.specs.Prelude.{◌≡◌};
+ghost use Rattle.std.specs.Prelude.{◌≡◌, OnOk};
 ghost use Rattle.rack.specs.Meaning.{asked};
 ghost use Rattle.rack.specs.Refusals.{numbered};
-ghost use Rattle.racktests.specs.Opened.{opened};
+ghost use Rattle.rack.specs.Writes.{Writes};
+ghost use Rattle.racktests.specs.Opened.{opened, opening};
 
 use rack::{Change, Rack, RackRefusal};
 use record::Fields;
@@ -12,10 +13,11 @@ use record::Fields;
 // The polling address of an opened channel.
 const OPENED_ADDRESS: u8 = 7;
 
-// Opens a channel's key, gives the channel its polling address, and tells its fields.
+/// Opens a channel's key, gives the channel its polling address, and tells its fields.
 pub fn open_key<R: Rack>(rack: &mut R, channel: u8) -> Result<Fields, RackRefusal>
     ensures answer { numbered result ≡ asked (λ c. c.fields) (opened (R.Rack.records rack.old) channel) channel }
     ensures after { R.Rack.records rack.new ≡ opened (R.Rack.records rack.old) channel }
+    ensures writes { OnOk result (Writes R.Rack.wrote channel opening rack.old rack.new) }
 {
     rack.write(channel, Change::Key(true))?;
     rack.write(channel, Change::PollingAddress(OPENED_ADDRESS))?;
@@ -142,6 +144,35 @@ mod tests {
         assert_eq!(rt; single.ceiling, 60);
         assert_eq!(rt; single.setpoint, FORTY);
         assert!(rt; single.key_open);
+        Ok(())
+    }
+
+    // Of 16 records below it a ceiling tells 16, and its channels are the first 15.
+    #[test]
+    fn sixteen(rt: HostRuntime) -> Result<(), Fail> {
+        let mut file = [0; 1200];
+        for row in file.chunks_exact_mut(RECORD_LENGTH) {
+            row.copy_from_slice(&bytes_under(90));
+        }
+        let mut left = Shelf::blank();
+        left.fill(&file)?;
+        let mut rack = Ceiling {
+            below: SideBySide {
+                left,
+                right: single_under(60)?,
+            },
+            percent: 40,
+        };
+        assert_eq!(rt; rack.count(), 16);
+        assert_eq!(rt; rack.fields(14)?.ceiling, 40);
+        assert_eq!(rt;
+            rack.fields(15).err(),
+            Some(RackRefusal::Call(Refusal::NoChannel))
+        );
+        assert_eq!(rt;
+            rack.write(14, Change::Setpoint(FIFTY)),
+            Err(RackRefusal::TooLarge)
+        );
         Ok(())
     }
 
