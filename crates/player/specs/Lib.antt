@@ -1,5 +1,5 @@
+pub mod Progress
 pub mod Outputs
-pub mod Streams
 pub mod Players
 pub mod Playing
-pub mod Interruptions
+pub mod Sections

@@ -1,39 +1,37 @@
-ghost use Rattle.std.specs.Prelude.{◌≡◌, ℕ, suc, Ok, Some, None, List, MatchOption, MatchResult};
-ghost use Rattle.recording.specs.Events.{asked_of};
-ghost use Rattle.recording.specs.Recordings.{events_of, rest_of};
-ghost use Rattle.player.specs.Interruptions.{CanInterrupt};
-ghost use Rattle.player.specs.Outputs.{State, lines_of, lines_after};
-ghost use Rattle.player.specs.Streams.{Streams};
-ghost use Rattle.player.specs.Players.{Prints, AllPrinted, Names, Hears, Ends};
+ghost use Rattle.std.specs.Prelude.{◌≡◌};
+ghost use Rattle.player.specs.Players.{Asks, Names, Hears, Ends};
+ghost use Rattle.player.specs.declared.progress.Progress.TheVariants.{Going};
+ghost use Rattle.stream.specs.Streams.{view_of, begun};
 
-use crate::stream::{EventStream, Interruption};
+use crate::progress::Progress;
 use calls::{Call, Outcome};
 use panel::Driver;
 use recording::{Event, Format, Pause};
 use refusals::Refusal;
 use std::alloc::Global;
 use std::io::{Read, Write};
+use stream::{EventStream, Interruption};
 
-// Works a panel by the events of a recording, and prints what comes of them.
+/// Works a panel by the events of a recording, and prints what comes of them.
 #[derive(Drop)]
 pub struct Player<R: Drop, W: Drop> {
     pub(crate) stream: EventStream<R, W>,
     pub(crate) format: Format,
-    // Why the calls paused, once they have: the recording waits for what it says, or has ended. A driver ends a run by `None`
-    // alone, so this is kept here.
-    pub(crate) paused: Option<Result<Option<Pause>, Interruption>>,
+    /// A driver ends a run by `None` alone: why it did is kept here.
+    pub(crate) progress: Progress,
 }
 
 impl<R: Read + Drop, W: Write + Drop> Player<R, W> {
+    /// A player of all that the reader has.
     pub fn new(heap: Global, format: Format, input: R, output: W) -> Player<R, W>
-        ensures going { result.paused ≡ None }
+        ensures going { result.progress ≡ Going }
         ensures format { result.format ≡ format }
-        ensures streams { (bytes out : List ℕ) → R.Read.remaining input ≡ Some bytes → W.Write.contents output ≡ Some out → Streams R.Read.remaining W.Write.contents result.stream (events_of bytes) (rest_of bytes) out }
+        ensures stream { view_of result.stream ≡ begun input output }
     {
         Player {
             stream: EventStream::new(heap, input, output),
             format,
-            paused: None,
+            progress: Progress::Going,
         }
     }
 }
@@ -44,7 +42,7 @@ fn next_asked<R: Read + Drop, W: Write + Drop>(
     stream: &mut EventStream<R, W>,
     format: Format,
 ) -> Result<Option<Event>, Interruption>
-    ensures { (s : State) (taken most : ℕ) (total : List ℕ) → Prints R.Read.remaining W.Write.contents stream.old (lines_of format s) taken most total → MatchResult result (λ o. MatchOption o (AllPrinted R.Read.remaining W.Write.contents stream.new total) (λ e. Prints R.Read.remaining W.Write.contents stream.new (lines_after format s (Ok (asked_of e))) (suc taken) most total)) (CanInterrupt most) }
+    ensures { Asks R.Read.remaining W.Write.contents stream.old stream.new format result }
 {
     for _ in 0..u64::MAX {
         let Some(event) = stream.next_event()? else {
@@ -61,30 +59,30 @@ fn next_asked<R: Read + Drop, W: Write + Drop>(
 impl<R: Read + Drop, W: Write + Drop> Driver for Player<R, W> {
     ghost names = { Names R.Read.remaining W.Write.contents };
 
-    ghost hears = { Hears R.Read.remaining W.Write.contents };
+    ghost hears = { Hears };
 
     ghost ends = { Ends R.Read.remaining W.Write.contents };
 
     #[inline(always)]
     fn next(&mut self) -> Option<Call> {
-        if self.paused.is_some() {
+        if !self.progress.is_going() {
             return None;
         }
-        let paused = match next_asked(&mut self.stream, self.format) {
+        let progress = match next_asked(&mut self.stream, self.format) {
             Ok(Some(Event::Call(call))) => return Some(call),
-            Ok(Some(Event::Look { channel })) => Ok(Some(Pause::Look { channel })),
-            Ok(Some(Event::SetUp { supply })) => Ok(Some(Pause::SetUp { supply })),
-            Ok(None) => Ok(None),
-            Err(interruption) => Err(interruption),
+            Ok(Some(Event::Look { channel })) => Progress::Waiting(Pause::Look { channel }),
+            Ok(Some(Event::SetUp { supply })) => Progress::Waiting(Pause::SetUp { supply }),
+            Ok(None) => Progress::Ended,
+            Err(interruption) => Progress::Interrupted(interruption),
         };
-        self.paused = Some(paused);
+        self.progress = progress;
         None
     }
 
     #[inline(always)]
     fn hear(&mut self, _call: Call, outcome: Result<Outcome<'_>, Refusal>) {
         if let Err(e) = self.stream.tell(outcome) {
-            self.paused = Some(Err(Interruption::Memory(e)));
+            self.progress = Progress::Interrupted(Interruption::Memory(e));
         }
     }
 }

@@ -2,11 +2,10 @@
 use Rattle.std.proofs.Common.{◌≡◌, ◌==◌, nat_lt, suc, true, false, ℕ, ◌+◌, ◌*◌, ◌/◌, ◌<◌, ◌≤◌, List, [], ◌∷◌, ◌++◌, take, drop, length, Option, Some, None, sym, refl, ap, ◌∙◌, append_assoc, append-nil, arith}
 use Rattle.std.proofs.Math.Seq.{take-append-add}
 use Rattle.std.proofs.lemmas.Bool.{ltb-true, ltb-false}
-use Rattle.std.proofs.lemmas.List.{length-take-le, length-drop, length-append, take-append-le, drop-append-le, drop-drop}
+use Rattle.std.proofs.lemmas.List.{length-take-le, take_all, length-drop, length-append, take-append-le, drop-append-le, drop-drop}
 use Rattle.std.specs.Simd.{first_chunks}
-use Rattle.std.specs.Io.KnownBytes.{Consumes, IsAtEnd}
-use Rattle.recording.specs.Lines.{refusal_line}
-use Rattle.player.specs.Outputs.{rest_line}
+use Rattle.std.specs.Io.KnownBytes.{Consumes, IsAtEnd, Keeps}
+use Rattle.recording.specs.Lines.{refusal_line, rest_line}
 use Rattle.recording.specs.Recordings.{events_of, rest_of}
 
 -- what a read took of known bytes
@@ -73,3 +72,18 @@ no_rest rest unread e h = rw (e, ← h) refl
 
 pub some_rest : (rest unread : List ℕ) → rest ≡ unread → false ≡ (length unread == 0) → rest_line rest ≡ refusal_line 104
 some_rest rest unread e h = rw (e, ← h) refl
+
+-- an error of a read leaves the bytes of a block as they were, and those that the reader has left
+pub unread_kept : (block buf post : List ℕ) (start stop : ℕ) → stop ≤ length block → drop start (take stop (take stop block ++ (buf ++ post))) ≡ drop start (take stop block)
+unread_kept block buf post start stop l =
+    let long = length-take-le stop block l in
+    ap (drop start) (take-append-le stop (take stop block) (buf ++ post) (omega (arith, long)) ∙ take_all stop (take stop block) (omega (arith, long)))
+
+pub kept_known : (old new : Option (List ℕ)) (left : List ℕ) → old ≡ Some left → Keeps old new → new ≡ Some left
+kept_known None new left e h = cc
+kept_known (Some xs) None left e h = absurd h
+kept_known (Some xs) (Some ys) left e h = let k : ys ≡ xs = h in cc
+
+-- the bytes to come are the same where some of them were read
+pub same_bytes : (unread unread' left bytes left' : List ℕ) → left ≡ bytes ++ left' → unread' ≡ unread ++ bytes → unread' ++ left' ≡ unread ++ left
+same_bytes unread unread' left bytes left' e f = ap (λ l. l ++ left') f ∙ (append_assoc unread bytes left' ∙ ap (λ l. unread ++ l) (sym e))

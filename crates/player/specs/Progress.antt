@@ -1,0 +1,11 @@
+-- How far a player has come.
+use Rattle.std.specs.Prelude.{Bool, true, false}
+use Rattle.player.specs.declared.progress.Progress.{Progress}
+use Rattle.player.specs.declared.progress.Progress.TheVariants.{Going, Waiting, Ended, Interrupted}
+
+-- it names calls
+abbrev pub going? : Progress → Bool
+going? Going = true
+going? (Waiting pause) = false
+going? Ended = false
+going? (Interrupted interruption) = false

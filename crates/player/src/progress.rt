@@ -1,0 +1,27 @@
+ghost use Rattle.std.specs.Prelude.{◌≡◌};
+ghost use Rattle.player.specs.Progress.{going?};
+
+use recording::Pause;
+use stream::Interruption;
+
+/// How far a player has come with its recording.
+#[derive(Clone, Copy)]
+pub enum Progress {
+    /// It names calls.
+    Going,
+    /// It waits for what is done with the panel between the calls.
+    Waiting(Pause),
+    /// No event is to come any more.
+    Ended,
+    /// It was interrupted.
+    Interrupted(Interruption),
+}
+
+impl Progress {
+    /// Whether calls are named.
+    pub fn is_going(self) -> bool
+        ensures { result ≡ going? self }
+    {
+        matches!(self, Progress::Going)
+    }
+}

@@ -1,0 +1,2 @@
+mod Bytes
+pub mod Views
