@@ -4,7 +4,7 @@ ghost use Rattle.player.specs.declared.progress.Progress.TheVariants.{Going};
 ghost use Rattle.stream.specs.Streams.{view_of, begun};
 
 use crate::progress::Progress;
-use calls::{Call, Outcome};
+use calls::{Call, Response};
 use panel::Driver;
 use recording::{Event, Format, Pause};
 use refusals::Refusal;
@@ -80,8 +80,8 @@ impl<R: Read + Drop, W: Write + Drop> Driver for Player<R, W> {
     }
 
     #[inline(always)]
-    fn hear(&mut self, _call: Call, outcome: Result<Outcome<'_>, Refusal>) {
-        if let Err(e) = self.stream.tell(outcome) {
+    fn hear(&mut self, _call: Call, response: Result<Response<'_>, Refusal>) {
+        if let Err(e) = self.stream.tell(response) {
             self.progress = Progress::Interrupted(Interruption::Memory(e));
         }
     }

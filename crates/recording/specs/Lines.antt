@@ -1,4 +1,4 @@
--- The line of text of an outcome. A line feed, 10, ends each line.
+-- The line of text of a result. A line feed, 10, ends each line.
 use Rattle.std.specs.Prelude.{ℕ, List, [], ◌∷◌, ◌++◌, length, ◌==◌, codes, decimal, if◌then◌else◌}
 use Rattle.hexdigits.specs.Hex.{hex_of}
 use Rattle.runs.specs.Channel.{flow_channel}

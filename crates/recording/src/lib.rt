@@ -1,6 +1,6 @@
-// Recordings of a panel: calls from the bytes of events, and lines of text from outcomes.
-//
-// Hints on inlining are for speed alone, as in the player.
+//! Recordings of a panel: calls from the bytes of events, and lines of text from responses.
+//!
+//! Hints on inlining are for speed alone, as in the player.
 #![tactic(auto)]
 
 mod decoder;
@@ -14,7 +14,7 @@ pub use printer::push_line;
 #[cfg(test)]
 mod tests {
     use super::*;
-    use calls::{Call, Outcome};
+    use calls::{Call, Response};
     use refusals::Refusal;
     use std::test::Fail;
 
@@ -52,7 +52,7 @@ mod tests {
         let mut lines = Vec::new(rt.alloc());
         push_line(
             &mut lines,
-            Ok(Outcome::Answered {
+            Ok(Response::Answered {
                 channel: 0,
                 bytes: &bytes,
             }),

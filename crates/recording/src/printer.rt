@@ -3,28 +3,28 @@ ghost use Rattle.refusals.specs.Refusals.{number_of};
 ghost use Rattle.calls.specs.Views.{result_of};
 ghost use Rattle.recording.specs.Lines.{refusal_line, answer_line, line_of};
 
-use calls::Outcome;
+use calls::Response;
 use hexdigits::push_hex;
 use refusals::Refusal;
 use std::alloc::AllocError;
 
-// Appends the line of an outcome, or changes nothing where memory is short.
+// Appends the line of a response, or changes nothing where memory is short.
 //
 // Digit by digit, and no `Display`: a formatter would cost more than all else that comes of a gap.
 #[inline(always)]
 pub fn push_line(
     lines: &mut Vec<u8>,
-    outcome: Result<Outcome<'_>, Refusal>,
+    response: Result<Response<'_>, Refusal>,
 ) -> Result<(), AllocError>
-    ensures line { lines.new.items ≡ (if is_ok result then lines.old.items ++ line_of (result_of outcome.entry) else lines.old.items) }
-    ensures free { line_of (result_of outcome.entry) ≡ [] → IsOk result }
+    ensures line { lines.new.items ≡ (if is_ok result then lines.old.items ++ line_of (result_of response.entry) else lines.old.items) }
+    ensures free { line_of (result_of response.entry) ≡ [] → IsOk result }
 {
     let start = lines.len();
-    let pushed = match outcome {
+    let pushed = match response {
         // Most calls have no line.
-        Ok(Outcome::Taken) => return Ok(()),
-        Ok(Outcome::Silent) => return lines.extend_from_slice(b"silent\n"),
-        Ok(Outcome::Answered { channel, bytes }) => push_answer(lines, channel, bytes),
+        Ok(Response::Taken) => return Ok(()),
+        Ok(Response::Silent) => return lines.extend_from_slice(b"silent\n"),
+        Ok(Response::Answered { channel, bytes }) => push_answer(lines, channel, bytes),
         Err(refusal) => push_refusal(lines, refusal),
     };
     if pushed.is_err() {

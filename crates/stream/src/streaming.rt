@@ -7,7 +7,7 @@ ghost use Rattle.stream.specs.Streams.{unread_of, view_of, begun, told, TakesWho
 
 use crate::events::{BLOCK_LENGTH, EventStream};
 use crate::interruption::Interruption;
-use calls::Outcome;
+use calls::Response;
 use recording::{EVENT_LENGTH, push_line};
 use refusals::Refusal;
 use std::alloc::{AllocError, Global};
@@ -127,11 +127,11 @@ impl<R: Read + Drop, W: Write + Drop> EventStream<R, W> {
 
     /// The line of what came of an event, if it has one, is kept to be written. Where memory is short, nothing is told.
     #[inline(always)]
-    pub fn tell(&mut self, outcome: Result<Outcome<'_>, Refusal>) -> Result<(), AllocError>
-        ensures told { view_of self.new ≡ told (is_ok result) (line_of (result_of outcome.entry)) (view_of self.old) }
-        ensures free { line_of (result_of outcome.entry) ≡ [] → IsOk result }
+    pub fn tell(&mut self, response: Result<Response<'_>, Refusal>) -> Result<(), AllocError>
+        ensures told { view_of self.new ≡ told (is_ok result) (line_of (result_of response.entry)) (view_of self.old) }
+        ensures free { line_of (result_of response.entry) ≡ [] → IsOk result }
     {
-        push_line(&mut self.lines, outcome)
+        push_line(&mut self.lines, response)
     }
 
     /// A line of another kind, in the same way.
