@@ -1,5 +1,5 @@
 -- The events of a recording, 12 bytes each, and their calls.
-use Rattle.std.specs.Prelude.{ℕ, Bool, cond, ◌&&◌, List, Ok, Err, Result, ◌==◌, nat_le, slice_index}
+use Rattle.std.specs.Prelude.{ℕ, Bool, ◌&&◌, List, Ok, Err, Result, ◌==◌, nat_le, slice_index, if◌then◌else◌}
 use Rattle.std.specs.List.{between}
 use Rattle.refusals.specs.Refusals.{number_of}
 use Rattle.refusals.specs.declared.Refusal.{Refusal}
@@ -19,20 +19,78 @@ use Rattle.recording.specs.declared.events.Pause.TheVariants.{Look, SetUp}
 
 -- Bytes 4 to 7: the flow; 8 to 11: the temperature.
 abbrev pub reading_in : List ℕ → Reading
-reading_in event = record { flow = value_of (number32 event 4); temperature = value_of (number32 event 8) }
+reading_in event = record {
+  flow = value_of (number32 event 4);
+  temperature = value_of (number32 event 8);
+}
+
+-- the kind of an event, byte 0
+abbrev pub character_kind : ℕ
+character_kind = 1
+
+abbrev pub gap_kind : ℕ
+gap_kind = 2
+
+abbrev pub sample_kind : ℕ
+sample_kind = 3
+
+abbrev pub key_kind : ℕ
+key_kind = 4
+
+-- the kinds that recordings of supplyrun have besides
+abbrev pub room_kind : ℕ
+room_kind = 5
+
+abbrev pub look_kind : ℕ
+look_kind = 6
+
+abbrev pub set_up_kind : ℕ
+set_up_kind = 7
+
+-- a gap of no room of its own has room for any answer
+abbrev pub answer_room : ℕ
+answer_room = 64
+
+-- out of form
+abbrev pub out_of_form : ℕ
+out_of_form = 110
+
+abbrev pub kind_of : List ℕ → ℕ
+kind_of event = slice_index event 0
 
 -- What an event in form asks for; 110 where it is not.
 abbrev pub in_form : {X : Type 0} → Bool → X → Result X ℕ
-in_form formed x = cond formed (Ok x) (Err 110)
+in_form formed? x = if formed? then Ok x else Err out_of_form
 
--- By byte 0: 1 a character, of a byte and its marks; 2 a gap, with room for 64 bytes; 3 a sample and 4 a key turn, of a channel. What is not used is 0.
+-- what each kind asks for: a character, of byte and marks; a gap; a sample and a key turn, of a channel
+abbrev pub character_call : List ℕ → traces.Call flow_channel
+character_call event =
+    traces.character (record { byte = slice_index event 1; marks = slice_index event 2 })
+
+abbrev pub gap_call : traces.Call flow_channel
+gap_call = traces.gap answer_room
+
+abbrev pub sample_call : List ℕ → traces.Call flow_channel
+sample_call event = traces.local (slice_index event 1) (sample (reading_in event))
+
+abbrev pub key_call : List ℕ → traces.Call flow_channel
+key_call event = traces.local (slice_index event 1) (key (slice_index event 2 == 1))
+
+-- whether a key turn says to open or to shut
+abbrev pub key_byte? : List ℕ → Bool
+key_byte? event = nat_le (slice_index event 2) 1
+
+-- by its kind; what is not used is 0
 abbrev pub event_call : List ℕ → Result (traces.Call flow_channel) ℕ
 event_call event =
-    cond (slice_index event 0 == 1) (in_form (zeros? (between 3 12 event)) (traces.character (record { byte = slice_index event 1; marks = slice_index event 2 })))
-    (cond (slice_index event 0 == 2) (in_form (zeros? (between 1 12 event)) (traces.gap 64))
-    (cond (slice_index event 0 == 3) (in_form (zeros? (between 2 4 event)) (traces.local (slice_index event 1) (sample (reading_in event))))
-    (cond (slice_index event 0 == 4) (in_form (nat_le (slice_index event 2) 1 && zeros? (between 3 12 event)) (traces.local (slice_index event 1) (key (slice_index event 2 == 1))))
-    (Err 110))))
+    if kind_of event == character_kind then
+    in_form (zeros? (between 3 12 event)) (character_call event)
+    else if kind_of event == gap_kind then in_form (zeros? (between 1 12 event)) gap_call
+    else if kind_of event == sample_kind then
+    in_form (zeros? (between 2 4 event)) (sample_call event)
+    else if kind_of event == key_kind then
+    in_form (key_byte? event && zeros? (between 3 12 event)) (key_call event)
+    else Err out_of_form
 
 -- what the decoder answers: a call, or the number of a refusal
 abbrev pub viewed : Result code.Call Refusal → Result (traces.Call flow_channel) ℕ
@@ -44,13 +102,24 @@ pub data Asked : Type 0 where
   calls : traces.Call flow_channel → Asked
   pauses : Pause → Asked
 
--- By byte 0: 5 a gap of some room; 6 a look at a channel; 7 a set-up under the supply in bytes 4 to 7.
+-- a gap of some room; a look at a channel; a set-up under the supply in bytes 4 to 7
+abbrev pub room_asked : List ℕ → Asked
+room_asked event = calls (traces.gap (slice_index event 1))
+
+abbrev pub look_asked : List ℕ → Asked
+look_asked event = pauses (Look (slice_index event 1))
+
+abbrev pub set_up_asked : List ℕ → Asked
+set_up_asked event = pauses (SetUp (number32 event 4))
+
+-- by its kind; what is not used is 0
 abbrev pub own_asks : List ℕ → Result Asked ℕ
 own_asks event =
-    cond (slice_index event 0 == 5) (in_form (zeros? (between 2 12 event)) (calls (traces.gap (slice_index event 1))))
-    (cond (slice_index event 0 == 6) (in_form (zeros? (between 2 12 event)) (pauses (Look (slice_index event 1))))
-    (cond (slice_index event 0 == 7) (in_form (zeros? (between 1 4 event) && zeros? (between 8 12 event)) (pauses (SetUp (number32 event 4))))
-    (Err 110)))
+    if kind_of event == room_kind then in_form (zeros? (between 2 12 event)) (room_asked event)
+    else if kind_of event == look_kind then in_form (zeros? (between 2 12 event)) (look_asked event)
+    else if kind_of event == set_up_kind then
+    in_form (zeros? (between 1 4 event) && zeros? (between 8 12 event)) (set_up_asked event)
+    else Err out_of_form
 
 -- a call, or what is asked where it is none
 abbrev pub or_else : Result (traces.Call flow_channel) ℕ → Result Asked ℕ → Result Asked ℕ
@@ -59,7 +128,7 @@ or_else (Err number) other = other
 
 -- Recordings of supplyrun have these three kinds besides.
 abbrev pub event_asks : Format → List ℕ → Result Asked ℕ
-event_asks Linerun event = or_else (event_call event) (Err 110)
+event_asks Linerun event = or_else (event_call event) (Err out_of_form)
 event_asks Supplyrun event = or_else (event_call event) (own_asks event)
 
 -- what the decoder answers

@@ -1,5 +1,5 @@
 -- The line of text of a result. A line feed, 10, ends each line.
-use Rattle.std.specs.Prelude.{ℕ, List, [], ◌∷◌, ◌++◌, length, ◌==◌, codes, decimal, if◌then◌else◌}
+use Rattle.std.specs.Prelude.{ℕ, Bool, List, [], ◌∷◌, ◌++◌, length, ◌==◌, codes, decimal, if◌then◌else◌}
 use Rattle.hexdigits.specs.Hex.{hex_of}
 use Rattle.runs.specs.Channel.{flow_channel}
 use Rattle.runs.specs.Traces.{Result, taken, refused, silent, answered}
@@ -19,3 +19,7 @@ line_of (answered k bytes) = answer_line k bytes
 -- the line of what is left of a recording: fewer than 12 bytes are refused, as a file of a wrong length
 abbrev pub rest_line : List ℕ → List ℕ
 rest_line rest = (if length rest == 0 then [] else refusal_line 104)
+
+-- a line more behind others, if there was memory for it
+abbrev pub with_line : Bool → List ℕ → List ℕ → List ℕ
+with_line kept? line lines = (if kept? then lines ++ line else lines)

@@ -4,14 +4,14 @@ ghost use Rattle.std.specs.List.{between};
 ghost use Rattle.recording.specs.Events.{viewed, event_call};
 
 use calls::Call;
-use line::MAX_ANSWER;
+use line::ANSWER_ROOM;
 use record::{Reading, value_of};
 use refusals::Refusal;
 
 pub const EVENT_LENGTH: usize = 12;
 
-// The call of an event, by its kind in byte 0 (docs/LINERUN.md). Of the last eight bytes, the patterns of flow and temperature in a
-// sample, the first is the most significant one. Anything else is out of form.
+/// The call of an event, by its kind in byte 0 (docs/LINERUN.md). Of the last eight bytes, the patterns of flow and temperature in a
+/// sample, the first is the most significant one. Anything else is out of form.
 #[inline(always)]
 pub fn decode_event(event: &[u8; EVENT_LENGTH]) -> Result<Call, Refusal>
     ensures { viewed result ≡ event_call event.now }
@@ -20,7 +20,7 @@ pub fn decode_event(event: &[u8; EVENT_LENGTH]) -> Result<Call, Refusal>
     match (kind, first, second, third, last_eight(event)) {
         (1, byte, marks, 0, 0) => Ok(Call::Character { byte, marks }),
         // A recorded gap has room for any answer.
-        (2, 0, 0, 0, 0) => Ok(Call::Gap { room: MAX_ANSWER }),
+        (2, 0, 0, 0, 0) => Ok(Call::Gap { room: ANSWER_ROOM }),
         (3, channel, 0, 0, patterns) => Ok(Call::Sample {
             channel,
             reading: Reading {

@@ -5,17 +5,17 @@ use crate::decoder::{EVENT_LENGTH, decode_event, last_eight};
 use calls::Call;
 use refusals::Refusal;
 
-// Which program's events a recording has.
+/// Which program's events a recording has.
 #[derive(Clone, Copy, PartialEq, Eq, Debug)]
 pub enum Format {
-    // Calls alone, each gap with room for any answer.
+    /// Calls alone, each gap with room for any answer.
     Linerun,
-    // Besides them gaps of any room, looks, and set-ups again.
+    /// Besides them gaps of any room, looks, and set-ups again.
     Supplyrun,
 }
 
-// What an event asks for. A look and a set-up are cases of their own and no `Pause`: within one case it would lie over a call's
-// first bytes, and each call would be copied once more.
+/// What an event asks for. A look and a set-up are cases of their own and no `Pause`: within one case it would lie over a call's
+/// first bytes, and each call would be copied once more.
 #[derive(Clone, Copy)]
 pub enum Event {
     Call(Call),
@@ -23,18 +23,18 @@ pub enum Event {
     SetUp { supply: u32 },
 }
 
-// What is done with a panel between the calls of a run.
+/// What is done with a panel between the calls of a run.
 #[derive(Clone, Copy)]
 pub enum Pause {
-    // The record of a channel is looked at.
+    /// The record of a channel is looked at.
     Look { channel: u8 },
-    // The panel is set up again, under this supply in mL/min.
+    /// The panel is set up again, under this supply in mL/min.
     SetUp { supply: u32 },
 }
 
 impl Format {
-    // What an event asks for, by its kind in byte 0: what `decode_event` knows, and in a recording of supplyrun what `decode_own`
-    // knows (docs/SUPPLYRUN.md). Anything else is out of form.
+    /// What an event asks for, by its kind in byte 0: what `decode_event` knows, and in a recording of supplyrun what `decode_own`
+    /// knows (docs/SUPPLYRUN.md). Anything else is out of form.
     #[inline(always)]
     pub fn decode(self, event: &[u8; EVENT_LENGTH]) -> Result<Event, Refusal>
         ensures { asked_by result ≡ event_asks self event.now }

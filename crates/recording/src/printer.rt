@@ -1,22 +1,23 @@
-ghost use Rattle.std.specs.Prelude.{◌≡◌, [], ◌++◌, take, length, decimal, is_ok, IsOk, OnOk, if◌then◌else◌};
+ghost use Rattle.std.specs.Prelude.{◌≡◌, [], ◌++◌, take, length, decimal, is_ok, IsOk, OnOk};
 ghost use Rattle.refusals.specs.Refusals.{number_of};
 ghost use Rattle.calls.specs.Views.{result_of};
-ghost use Rattle.recording.specs.Lines.{refusal_line, answer_line, line_of};
+ghost use Rattle.recording.specs.Lines.{refusal_line, answer_line, line_of, with_line};
 
 use calls::Response;
 use hexdigits::push_hex;
 use refusals::Refusal;
 use std::alloc::AllocError;
 
-// Appends the line of a response, or changes nothing where memory is short.
-//
-// Digit by digit, and no `Display`: a formatter would cost more than all else that comes of a gap.
+/// Appends the line of a response, or changes nothing where memory is short.
+///
+/// Digit by digit, and no `Display`: a formatter would cost more than all else that comes of a gap.
 #[inline(always)]
 pub fn push_line(
     lines: &mut Vec<u8>,
     response: Result<Response<'_>, Refusal>,
 ) -> Result<(), AllocError>
-    ensures line { lines.new.items ≡ (if is_ok result then lines.old.items ++ line_of (result_of response.entry) else lines.old.items) }
+    ensures line { lines.new.items
+        ≡ with_line (is_ok result) (line_of (result_of response.entry)) lines.old.items }
     ensures free { line_of (result_of response.entry) ≡ [] → IsOk result }
 {
     let start = lines.len();
@@ -36,7 +37,8 @@ pub fn push_line(
 
 // Appends the line of an answer, or a part of it.
 fn push_answer(lines: &mut Vec<u8>, channel: u8, bytes: &[u8]) -> Result<(), AllocError>
-    ensures line { OnOk result (lines.new.items ≡ lines.old.items ++ answer_line channel bytes.now) }
+    ensures line { OnOk result
+        (lines.new.items ≡ lines.old.items ++ answer_line channel bytes.now) }
     ensures front { take (length lines.old.items) lines.new.items ≡ lines.old.items }
 {
     push_number(lines, channel)?;
@@ -48,7 +50,8 @@ fn push_answer(lines: &mut Vec<u8>, channel: u8, bytes: &[u8]) -> Result<(), All
 
 // The same of a refusal.
 fn push_refusal(lines: &mut Vec<u8>, refusal: Refusal) -> Result<(), AllocError>
-    ensures line { OnOk result (lines.new.items ≡ lines.old.items ++ refusal_line (number_of refusal)) }
+    ensures line { OnOk result
+        (lines.new.items ≡ lines.old.items ++ refusal_line (number_of refusal)) }
     ensures front { take (length lines.old.items) lines.new.items ≡ lines.old.items }
 {
     lines.extend_from_slice(b"refused ")?;

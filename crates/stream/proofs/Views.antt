@@ -1,5 +1,5 @@
 -- What is to come of a stream, and what was printed by it, by what its owner can tell of it.
-use Rattle.std.proofs.Common.{◌≡◌, ℕ, zero, suc, ◌<◌, ◌⊎◌, inl, inr, arith, Bool, true, false, List, [], ◌++◌, Option, Some, Result, Ok, Err, OnErr, sym, refl, ap, ◌∙◌, append_assoc, append-nil}
+use Rattle.std.proofs.Common.{◌≡◌, ℕ, zero, suc, ◌<◌, ◌⊎◌, inl, inr, arith, Bool, true, List, [], ◌++◌, Option, Some, Result, Ok, Err, OnErr, sym, refl, ap, ◌∙◌, append_assoc, append-nil}
 use Rattle.recording.specs.Recordings.{events_of, rest_of}
 use Rattle.stream.specs.Streams.{View, begun, told, Holds, Written, WrittenFirst, unread, written, NoneLost, Streams}
 

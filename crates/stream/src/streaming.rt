@@ -1,9 +1,9 @@
-ghost use Rattle.std.specs.Prelude.{◌≡◌, ◌<◌, ◌≤◌, true, false, None, [], ◌++◌, length, is_ok, IsOk, IfOk, IfErr, OnOk, OnErr};
+ghost use Rattle.std.specs.Prelude.{◌≡◌, ◌<◌, true, None, [], length, is_ok, IsOk, IfOk, IfErr, OnOk, OnErr};
 ghost use Rattle.std.specs.Option.{option_to_list};
 ghost use Rattle.calls.specs.Views.{result_of};
-ghost use Rattle.recording.specs.Lines.{line_of, rest_line};
+ghost use Rattle.recording.specs.Lines.{line_of};
 ghost use Rattle.stream.specs.Interruptions.{OfStream, CanInterrupt};
-ghost use Rattle.stream.specs.Streams.{unread_of, view_of, begun, told, TakesWhole, Holds, Written, WrittenFirst, NoneLost, Gives, TakesNext, ReadOn};
+ghost use Rattle.stream.specs.Streams.{unread_of, WholeEvent, NoWholeEvent, view_of, begun, told, with_rest, TakesWhole, Holds, Written, WrittenFirst, NoneLost, Gives, TakesNext, ReadOn};
 
 use crate::events::{BLOCK_LENGTH, EventStream};
 use crate::interruption::Interruption;
@@ -35,10 +35,13 @@ impl<R: Read + Drop, W: Write + Drop> EventStream<R, W> {
     /// The next event, if there is one more. Lines that wait are written before more is read for it.
     #[inline(always)]
     pub fn next_event(&mut self) -> Result<Option<[u8; EVENT_LENGTH]>, Interruption>
-        ensures next { IfOk result (Gives R.Read.remaining W.Write.contents (view_of self.old) (view_of self.new)) }
-        ensures whole { 12 ≤ length (unread_of self.old) → TakesWhole (view_of self.old) (view_of self.new) result }
+        ensures next { IfOk result
+            (Gives R.Read.remaining W.Write.contents (view_of self.old) (view_of self.new)) }
+        ensures whole { WholeEvent self.old
+            → TakesWhole (view_of self.old) (view_of self.new) result }
         ensures first { WrittenFirst W.Write.contents (view_of self.old) (view_of self.new) }
-        ensures kept { OnErr result (NoneLost R.Read.remaining (view_of self.old) (view_of self.new)) }
+        ensures kept { OnErr result
+            (NoneLost R.Read.remaining (view_of self.old) (view_of self.new)) }
         ensures interrupted { IfErr result OfStream }
     {
         // Each read that does not end the input brings a byte more, so that no more of them are wanted.
@@ -64,9 +67,11 @@ impl<R: Read + Drop, W: Write + Drop> EventStream<R, W> {
     // The next event, if all its bytes came.
     #[inline(always)]
     fn whole_event(&mut self) -> Option<[u8; EVENT_LENGTH]>
-        ensures next { TakesNext R.Read.remaining W.Write.contents (view_of self.old) (view_of self.new) (option_to_list result) }
-        ensures whole { 12 ≤ length (unread_of self.old) → TakesWhole (view_of self.old) (view_of self.new) (Ok result) }
-        ensures short { result ≡ None → length (unread_of self.new) < 12 }
+        ensures next { TakesNext R.Read.remaining W.Write.contents (view_of self.old)
+            (view_of self.new) (option_to_list result) }
+        ensures whole { WholeEvent self.old
+            → TakesWhole (view_of self.old) (view_of self.new) (Ok result) }
+        ensures none { result ≡ None → NoWholeEvent self.new }
         ensures kept { result ≡ None → self.new ≡ self.old }
         ensures lines { self.new.lines ≡ self.old.lines }
         ensures input { self.new.input ≡ self.old.input }
@@ -80,12 +85,16 @@ impl<R: Read + Drop, W: Write + Drop> EventStream<R, W> {
     // Writes the lines out and reads on, where no whole event is left: whether bytes came. Seldom, and so not inlined.
     #[inline(never)]
     fn read_on(&mut self) -> Result<bool, Interruption>
-        ensures grows { length (unread_of self.old) < 12 → IfOk result (λ more. more ≡ true → length (unread_of self.old) < length (unread_of self.new)) }
-        ensures read { length (unread_of self.old) < 12 → IfOk result (ReadOn R.Read.remaining W.Write.contents (view_of self.old) (view_of self.new)) }
+        ensures grows { NoWholeEvent self.old → IfOk result (λ more. more ≡ true
+            → length (unread_of self.old) < length (unread_of self.new)) }
+        ensures read { NoWholeEvent self.old → IfOk result
+            (ReadOn R.Read.remaining W.Write.contents (view_of self.old) (view_of self.new)) }
         ensures first { WrittenFirst W.Write.contents (view_of self.old) (view_of self.new) }
-        ensures written { OnOk result (Written W.Write.contents (view_of self.old) (view_of self.new)) }
+        ensures written { OnOk result
+            (Written W.Write.contents (view_of self.old) (view_of self.new)) }
         ensures quiet { self.old.lines.items ≡ [] → self.new.output ≡ self.old.output }
-        ensures kept { length (unread_of self.old) < 12 → NoneLost R.Read.remaining (view_of self.old) (view_of self.new) }
+        ensures kept { NoWholeEvent self.old
+            → NoneLost R.Read.remaining (view_of self.old) (view_of self.new) }
         ensures interrupted { IfErr result OfStream }
     {
         self.write_out()?;
@@ -97,7 +106,7 @@ impl<R: Read + Drop, W: Write + Drop> EventStream<R, W> {
 
     // Begins the block anew where it is full: no event is cut at its end, so that all of it was taken.
     fn make_room(&mut self)
-        ensures unread { length (unread_of self.old) < 12 → unread_of self.new ≡ unread_of self.old }
+        ensures unread { NoWholeEvent self.old → unread_of self.new ≡ unread_of self.old }
         ensures room { self.new.unread.end < 65532 }
         ensures input { self.new.input ≡ self.old.input }
         ensures output { self.new.output ≡ self.old.output }
@@ -111,9 +120,11 @@ impl<R: Read + Drop, W: Write + Drop> EventStream<R, W> {
     // Writes the lines out: who gives the input may wait for them. Standard output has no buffer; a writer that has one is flushed by
     // its owner.
     fn write_out(&mut self) -> io::Result<()>
-        ensures written { OnOk result (Written W.Write.contents (view_of self.old) (view_of self.new)) }
+        ensures written { OnOk result
+            (Written W.Write.contents (view_of self.old) (view_of self.new)) }
         ensures waiting { OnErr result (self.new.lines ≡ self.old.lines) }
-        ensures quiet { self.old.lines.items ≡ [] → IsOk result × (self.new.output ≡ self.old.output) }
+        ensures quiet { self.old.lines.items ≡ []
+            → IsOk result × (self.new.output ≡ self.old.output) }
         ensures unread { unread_of self.new ≡ unread_of self.old }
         ensures input { self.new.input ≡ self.old.input }
     {
@@ -128,7 +139,8 @@ impl<R: Read + Drop, W: Write + Drop> EventStream<R, W> {
     /// The line of what came of an event, if it has one, is kept to be written. Where memory is short, nothing is told.
     #[inline(always)]
     pub fn tell(&mut self, response: Result<Response<'_>, Refusal>) -> Result<(), AllocError>
-        ensures told { view_of self.new ≡ told (is_ok result) (line_of (result_of response.entry)) (view_of self.old) }
+        ensures told { view_of self.new
+            ≡ told (is_ok result) (line_of (result_of response.entry)) (view_of self.old) }
         ensures free { line_of (result_of response.entry) ≡ [] → IsOk result }
     {
         push_line(&mut self.lines, response)
@@ -154,7 +166,7 @@ impl<R: Read + Drop, W: Write + Drop> EventStream<R, W> {
 
     /// Closes a stream: what came and was not taken, of an event that is not whole, counts as a file of a wrong length.
     pub fn finish(mut self) -> Result<W, Interruption>
-        ensures written { IfOk result (Holds W.Write.contents (told true (rest_line (unread_of self)) (view_of self))) }
+        ensures written { IfOk result (Holds W.Write.contents (with_rest (view_of self))) }
         ensures interrupted { IfErr result (CanInterrupt 0) }
     {
         if !self.unread().is_empty() {

@@ -1,6 +1,6 @@
-use Rattle.std.proofs.Common.{◌≡◌, ◌<◌, ◌≤◌, length, ap, refl, ◌∙◌, vec_items, inl, inr, arith}
-use Rattle.stream.specs.Streams.{unread_of, view_of, Written, WrittenFirst, unread, written, NoneLost, one, end}
-use Rattle.stream.proofs.Views.{none_lost, written_stays, written_again, none_or_more, on_err}
+use Rattle.std.proofs.Common.{◌<◌, length, ap, refl, ◌∙◌, vec_items, inl, inr, arith}
+use Rattle.stream.specs.Streams.{unread_of, view_of, unread, written, NoneLost, one, end}
+use Rattle.stream.proofs.Views.{none_lost, written_stays, none_or_more, on_err}
 use Rattle.stream.proofs.events.EventStream.next_event.Goals as goal
 
 pub returns-in-Some-clause-next : goal.returns-in-Some-clause-next
@@ -14,7 +14,7 @@ returns-in-Some-clause-first g c = elim (none_or_more c.loop.counter) [
 
 pub returns-in_err-read_on-clause-kept : goal.returns-in_err-read_on-clause-kept
 returns-in_err-read_on-clause-kept g c =
-    let few : length (unread_of c.whole_event.new.self) < 12 = c.in_default.ensures.short refl in
+    let few : length (unread_of c.whole_event.new.self) < 12 = c.in_default.ensures.none refl in
     let before = view_of c.args.self.now in
     let after = view_of c.read_on.new.self in
     on_err c.from_residual.result (NoneLost g.R.Read.remaining before after)
@@ -23,7 +23,7 @@ returns-in_err-read_on-clause-kept g c =
 pub returns-then-not-branch-clause-next : goal.returns-then-not-branch-clause-next
 returns-then-not-branch-clause-next g c = λ events rest out s.
     let k = c.in_default.ensures.next events rest out (c.loop.invariant.2 events rest out s) in
-    let f = c.in_ok-read_on.ensures.read (c.in_default.ensures.short refl) k.0 rest out k.2 in
+    let f = c.in_ok-read_on.ensures.read (c.in_default.ensures.none refl) k.0 rest out k.2 in
     rw k.1 (end f.0 (f.1 c.if-not-branch.true))
 
 -- with 12 bytes unread there is an event

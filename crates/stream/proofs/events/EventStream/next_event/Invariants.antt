@@ -1,4 +1,4 @@
-use Rattle.std.proofs.Common.{◌≡◌, ℕ, ◌<◌, ◌≤◌, [], List, length}
+use Rattle.std.proofs.Common.{◌≡◌, ℕ, ◌<◌, ◌≤◌, List, length}
 use Rattle.stream.specs.Streams.{unread_of, view_of, Written, NoneLost, Streams}
 use Rattle.stream.proofs.events.EventStream.next_event.Given as goal
 

@@ -1,6 +1,5 @@
 use Rattle.std.proofs.Common.{◌∙◌, sym, ap, refl, Ok, Some, take}
 use Rattle.std.proofs.lemmas.List.{drop-drop}
-use Rattle.stream.specs.Streams.{View}
 use Rattle.stream.proofs.Bytes.{whole_first}
 use Rattle.stream.proofs.events.EventStream.whole_event.Goals as goal
 
