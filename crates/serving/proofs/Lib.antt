@@ -3,4 +3,6 @@ pub mod Records
 pub mod Writes
 pub mod Searching
 pub mod Sole
-pub mod Served
+pub mod Chained
+pub mod Answered
+pub mod Finding

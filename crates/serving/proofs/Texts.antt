@@ -1,5 +1,5 @@
 -- The text bytes of a channel.
-use Rattle.std.proofs.Common.{◌≡◌, ℕ, zero, suc, ◌+◌, ◌<◌, ◌≤◌, List, get_or, take, Some, Ok, Err, Result, sym, refl, ◌∙◌, subst, inl, inr, arith, length-take}
+use Rattle.std.proofs.Common.{◌≡◌, ℕ, zero, suc, ◌+◌, ◌<◌, ◌≤◌, List, get_or, take, drop, Some, Ok, Err, Result, sym, refl, ◌∙◌, subst, inl, inr, arith, length-take, length-drop}
 use denote.Param.Members.{Mut}
 use Rattle.std.specs.Array.{IsFromFnResultFrom, IsFromFnResult}
 use Rattle.std.specs.Fn.{Called}
@@ -7,7 +7,7 @@ use Rattle.std.specs.List.{AllByRecursion}
 use Rattle.std.specs.Result.{result_unwrap_or}
 use Rattle.std.proofs.lemmas.Bool.{cases_lt, le-leb}
 use Rattle.std.proofs.lemmas.Grind.{same_number_lists}
-use Rattle.std.proofs.lemmas.List.{get_or-take}
+use Rattle.std.proofs.lemmas.List.{get_or-take, get_or-drop}
 use Rattle.record.specs.Lawful.{Lawful}
 use Rattle.record.specs.declared.Record.{Record}
 use Rattle.rack.specs.Meaning.{channel_of, text_byte}
@@ -34,9 +34,10 @@ module _ (records : List Record) (channel : ℕ) (lawful : AllByRecursion Lawful
   byte_is place low (Ok b) e = let k = byte_at place low in cc
   byte_is place low (Err x) e = let k = byte_at place low in cc
 
-  pub text_is : {F : Type 0} {g : Mut F (ℕ × Unit {0}) ℕ} {f : F} (text : List ℕ) (n : ℕ) → n ≤ 45 → IsFromFnResult g f text n
-      → ((i y : ℕ) (q : F) → i < n → Called g f (i, tt) y q → (q ≡ f) × (y ≡ get_or r.text i 0)) → text ≡ take n r.text
-  text_is {g = g} {f = f} text n low made answers =
+  pub text_is : {F : Type 0} {g : Mut F (ℕ × Unit {0}) ℕ} {f : F} (text : List ℕ) (at n : ℕ) → at + n ≤ 45 → IsFromFnResult g f text n
+      → ((i y : ℕ) (q : F) → i < n → Called g f (i, tt) y q → (q ≡ f) × (y ≡ get_or r.text (at + i) 0)) → text ≡ take n (drop at r.text)
+  text_is {g = g} {f = f} text at n low made answers =
       let whole = (channel_lawful records channel r lawful is).text in
-      same_number_lists text (take n r.text) (omega (arith, made.long, length-take n r.text))
-      (λ i l. element_is g f (λ k. get_or r.text k 0) n answers text 0 n (omega arith) made.each i (omega arith) (omega (arith, made.long)) ∙ sym (get_or-take n r.text i 0 (omega (arith, made.long))))
+      same_number_lists text (take n (drop at r.text)) (omega (arith, made.long, length-take n (drop at r.text), length-drop at r.text))
+      (λ i l. element_is g f (λ k. get_or r.text (at + k) 0) n answers text 0 n (omega arith) made.each i (omega arith) (omega (arith, made.long))
+      ∙ sym (get_or-take n (drop at r.text) i 0 (omega (arith, made.long)) ∙ get_or-drop at r.text i 0))

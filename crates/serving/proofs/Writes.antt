@@ -1,16 +1,14 @@
 -- Writes to the record of a channel, by the list of records.
-use Rattle.std.proofs.Common.{◌≡◌, ℕ, zero, suc, ◌+◌, ◌-◌, ◌≤◌, Bool, true, false, cond, ◌&&◌, ltb, leb, List, [], ◌∷◌, length, set, is_some, IfSome, Some, None, Ok, Err, Option, Result, sym, refl, ap, ◌∙◌, inl, inr, arith, length-set}
+use Rattle.std.proofs.Common.{◌≡◌, ℕ, zero, suc, ◌+◌, ◌-◌, ◌≤◌, Bool, true, false, cond, ◌&&◌, ltb, leb, List, [], ◌∷◌, length, set, Some, None, Ok, Err, Option, Result, sym, refl, ap, ◌∙◌, inl, inr, arith, length-set}
 use Rattle.std.specs.Result.{MatchResult}
-use Rattle.std.proofs.lemmas.Bool.{cases_Bool, and_from, lt-ltb, le-leb, leb-true, cases_lt}
+use Rattle.std.proofs.lemmas.Bool.{and_from, lt-ltb, le-leb, cases_lt}
 use Rattle.std.proofs.lemmas.List.{set-set}
 use Rattle.refusals.specs.Refusals.{numbered}
 use Rattle.refusals.specs.declared.Refusal.{Refusal}
 use Rattle.header.specs.Shares.{option_share, share_at, total_share, rack_share}
-use Rattle.line.specs.Effects.{stores?, stored_by, flagged}
-use Rattle.line.specs.Requests.{Asked}
-use Rattle.rack.specs.Changes.{written, record_after}
-use Rattle.rack.specs.Meaning.{told, record_at, channel_of, written_at, records_after}
-use Rattle.rack.specs.declared.changes.Change.{Change}
+use Rattle.rack.specs.Changes.{answer_of, written, refused_by, put}
+use Rattle.rack.specs.Edits.{Edit}
+use Rattle.rack.specs.Meaning.{told, record_at, channel_of, after_at}
 use Rattle.record.specs.declared.Record.{Record}
 use Rattle.runs.specs.Channel.{flow_channel}
 use Rattle.runs.specs.Places.{At, here, there}
@@ -43,19 +41,12 @@ channel_set records k r s e =
     let t : (ltb k (told (set records k s)) && leb k 14) ≡ true = rw (length-set records k s) p.0 in
     rw t (record_there (at_set s (at_record records k r p.1)))
 
-after_write : (w : Result Record ℕ) (records : List Record) (k : ℕ) (r : Record) → record_at records k ≡ Some r → records_after w records k ≡ set records k (record_after w r)
-after_write (Ok s) records k r e = refl
-after_write (Err n) records k r e = sym (set_record records k r e)
+-- a write that the record takes: its answer, and the records after it
+pub taken : (e : Edit) (r : Record) → refused_by e r.fields ≡ None → answer_of (written e r) ≡ Ok tt
+taken e r n = rw n refl
 
-pub written_after : (records : List Record) (k : ℕ) (r : Record) (c : Change) → channel_of records k ≡ Some r
-    → records_after (written_at records k c) records k ≡ set records k (record_after (written c r) r)
-written_after records k r c e = rw e (after_write (written c r) records k r (record_of_channel records k r e))
-
--- what a request writes, as a change that it may have
-pub change_stored : (o : Option Change) (a : Asked) (r : Record) → is_some o ≡ stores? a → IfSome o (λ c. (q : Record) → written c q ≡ stored_by a q)
-    → flagged o r ≡ record_after (stored_by a r) r
-change_stored (Some c) a r i s = ap (λ w. record_after w r) (s r)
-change_stored None a r i s = rw (sym i) refl
+pub written_after : (records : List Record) (k : ℕ) (r : Record) (e : Edit) → channel_of records k ≡ Some r → refused_by e r.fields ≡ None → after_at records k e ≡ set records k (put e r)
+written_after records k r e is n = rw (is, n) refl
 
 -- two changes, one after another
 pub changed_twice : (records mid after : List Record) (k : ℕ) (r q s : Record) → channel_of records k ≡ Some r → mid ≡ set records k q → (channel_of mid k ≡ Some q → after ≡ set mid k s) → after ≡ set records k s
@@ -86,13 +77,10 @@ channel_record records k few = elim (cases_lt k (length records)) [
 others_rest : (records : List Record) (k n : ℕ) → length records ≤ 15 → n ≡ share_at records k → total_share records ≡ others flow_channel records k + n
 others_rest records k n few e = others_share records k ∙ ap (λ m. others flow_channel records k + m) (ap option_share (sym (channel_record records k few)) ∙ sym e)
 
-pub others_value : (records : List Record) (k n : ℕ) (a : Result ℕ Refusal) → numbered a ≡ rack_share records → MatchResult a (λ sum. n ≡ sum - share_at records k) (λ _. n ≡ 0)
-    → n ≡ cond (leb (length records) 15) (others flow_channel records k) 0
-others_value records k n (Ok sum) e s = elim (cases_Bool (leb (length records) 15)) [
-  | inl b ↦ let t : sum ≡ total_share records = (let h = rw b at e in cc) in let o = others_rest records k (share_at records k) (leb-true (length records) 15 b) refl in rw b (omega arith)
-  | inr b ↦ let h = rw b at e in cc
-]
-others_value records k n (Err x) e s = elim (cases_Bool (leb (length records) 15)) [
-  | inl b ↦ let h = rw b at e in cc
-  | inr b ↦ rw b s
-]
+pub others_value : (records : List Record) (k n : ℕ) (a : Result ℕ Refusal) → length records ≤ 15 → numbered a ≡ rack_share records → MatchResult a (λ sum. n ≡ sum - share_at records k) (λ _. n ≡ 0)
+    → n ≡ others flow_channel records k
+others_value records k n (Ok sum) few e s =
+    let t : sum ≡ total_share records = (let h = rw (le-leb (length records) 15 few) at e in cc) in
+    let o = others_rest records k (share_at records k) few refl in
+    omega arith
+others_value records k n (Err x) few e s = let h = rw (le-leb (length records) 15 few) at e in cc

@@ -1,2 +1,6 @@
+pub mod Reading
 pub mod Meant
 pub mod Serving
+pub mod Writing
+pub mod Answering
+pub mod Standing

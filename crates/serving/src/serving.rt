@@ -1,48 +1,65 @@
-ghost use Rattle.std.specs.Prelude.{◌≡◌, None};
+//! The end of a transmission.
+
 ghost use Rattle.std.specs.Option.{option_map};
-ghost use Rattle.line.specs.Views.{heard};
-ghost use Rattle.serving.specs.Serving.{served_into, channel_and_length, front_of};
+ghost use Rattle.line.specs.Views.{reception};
+ghost use Rattle.serving.specs.Answering.{Finds, view_of};
+ghost use Rattle.serving.specs.Serving.{Serves, served, Lawfully, answering_in};
 
-use crate::answering::{carry_out, is_accepted, others_share};
+use crate::answering::Meant;
+use crate::answers::Answer;
+use crate::asking::Beside;
 use crate::choosing::sole_meant;
-use crate::reading::record_of;
-use line::{Header, MAX_ANSWER, Received, respond};
+use line::{ANSWER_ROOM, Received, judge};
 use rack::Rack;
+use refusals::Refusal;
 
-// Who answers, and by how many bytes.
-#[derive(Clone, Copy, PartialEq, Eq, Debug)]
-pub struct Answer {
-    pub channel: u8,
-    pub length: usize,
-}
-
-// Serves a transmission at the channels of a rack, under a supply in mL/min. The one channel that is meant writes through the
-// rack and answers in the front of `out`; where none or several are meant, or `out` has under 64 bytes, nothing happens.
+/// Serves a transmission at the channels of a rack, under a supply in mL/min: 102 where `out` has under 64 bytes, before anything
+/// is asked or written. The one channel that is meant writes through the rack what its command writes, and answers in the front
+/// of `out`. All are silent, and nothing is written, where none or several are meant, where there is no supply, as before a set-up,
+/// and where the transmission is longer than any whole one.
 pub fn serve<R: Rack>(
     rack: &mut R,
-    supply: u32,
-    received: Received<'_>,
+    supply: Option<u32>,
+    received: Option<Received<'_>>,
     out: &mut [u8],
-) -> Option<Answer>
-    ensures answer { option_map (λ x. (x.channel, x.length)) result ≡ channel_and_length (served_into out.old supply (R.Rack.records rack.old) (heard received.entry)).answer }
-    ensures buffer { out.new ≡ front_of (served_into out.old supply (R.Rack.records rack.old) (heard received.entry)).answer out.old }
-    ensures idle { result ≡ None → rack.new ≡ rack.old }
-    ensures records { R.Rack.records rack.new ≡ (served_into out.old supply (R.Rack.records rack.old) (heard received.entry)).records }
+) -> Result<Option<Answer>, Refusal>
+    ensures serves { let s = served supply (R.Rack.records rack.old) (option_map reception received.entry) out.old in
+        Serves R.Rack.records R.Rack.wrote s rack.old rack.new out.old out.new result }
+    ensures law { let x = option_map reception received.entry in
+        Lawfully x (answering_in (served supply (R.Rack.records rack.old) x out.old)) }
 {
-    if out.len() < MAX_ANSWER {
-        return None;
+    if out.len() < ANSWER_ROOM {
+        return Err(Refusal::ShortBuffer);
     }
+    // Silence is an answer and no error, so no `?`.
+    let Some(meant) = find(rack, supply, received) else {
+        return Ok(None);
+    };
+    meant.answer(rack, out)
+}
+
+// The channel that is meant, if just one is, and its judgement.
+fn find<'a, R: Rack>(
+    rack: &R,
+    supply: Option<u32>,
+    received: Option<Received<'a>>,
+) -> Option<Meant<'a>>
+    ensures { Finds supply (R.Rack.records rack.now) (option_map reception received.entry) (option_map view_of result) }
+{
+    let supply = supply?;
+    let received = received?;
     let frame = received.frame()?;
     let channel = sole_meant(rack, frame)?;
-    let mut record = record_of(rack, channel)?;
-    let header = Header {
+    let fields = rack.fields(channel).ok()?;
+    let beside = Beside {
+        rack,
         supply,
-        others: others_share(rack, channel),
+        channel,
     };
-    let accepted = is_accepted(received, frame, &record, header);
-    let length = respond(received, &mut record, header, out).ok().flatten()?;
-    if accepted {
-        carry_out(rack, channel, frame.command, frame.data);
-    }
-    Some(Answer { channel, length })
+    Some(Meant {
+        channel,
+        fields,
+        frame,
+        judgement: judge(received, frame, fields, &beside),
+    })
 }
