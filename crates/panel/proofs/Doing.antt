@@ -1,10 +1,12 @@
 -- What a call does, from its one outcome.
-use Rattle.std.proofs.Common.{◌≡◌, ℕ, ◌<◌, ◌≤◌, List, [], ◌∷◌, ◌++◌, Some, None, Option, sym, refl, subst}
-use Rattle.std.proofs.lemmas.Bool.{le-leb, lt-leb}
+use Rattle.std.proofs.Common.{◌∙◌, ◌≡◌, ℕ, ◌<◌, ◌≤◌, List, [], ◌∷◌, ◌++◌, Some, None, Option, sym, refl, subst, Bool, true, false, cond, leb, Ok, Err}
+use Rattle.std.proofs.lemmas.Bool.{le-leb, lt-leb, leb-true, leb-false}
+use Rattle.std.specs.declared.result.Result as results
+use Rattle.line.specs.Marks.{marks_in}
 use Rattle.header.specs.Shares.{capacity_of}
 use Rattle.line.specs.Characters.{Character}
 use Rattle.rack.specs.declared.racks.Rack.{Ghosts}
-use Rattle.receiver.specs.Holding.{Holds, pending}
+use Rattle.receiver.specs.Holding.{Holds, HoldsMore, pending, character as character_of}
 use Rattle.receiver.proofs.Pending.{holds_pending}
 use Rattle.receiver.specs.declared.state.Receiver.{Receiver}
 use Rattle.record.specs.declared.Record.{Record}
@@ -64,11 +66,38 @@ pub refuses : {X : Type 0} {G : Ghosts X} (p : Panel X G) (c : Call flow_channel
     → ((t : List Character) → outcome_in p t c ≡ outcome_of flow_channel (refused n) (channels_of p.supply (records_in p)) t) → Does p p c (refused n)
 refuses p c n e = does p p c (refused n) refl (λ t h. comes p.supply (records_in p) p.receiver (outcome_in p t c) (refused n) t (e t) h)
 
+-- the marks of which a byte is the sum
+taken_by : (b : Bool) (m byte : ℕ) → leb byte 7 ≡ b → ◌≡◌ {A = results.Result ℕ ℕ} (Ok m) (cond b (Ok byte) (Err 109)) → (m ≡ byte) × (byte ≤ 7)
+taken_by true m byte b e = (cc, leb-true byte 7 b)
+taken_by false m byte b e = absurd (cc)
+
+refused_by : (b : Bool) (n byte : ℕ) → leb byte 7 ≡ b → ◌≡◌ {A = results.Result ℕ ℕ} (Err n) (cond b (Ok byte) (Err 109)) → (n ≡ 109) × (7 < byte)
+refused_by true n byte b e = absurd (cc)
+refused_by false n byte b e = (cc, leb-false byte 7 b)
+
 -- a character
-pub taken_character : (supply : Option ℕ) (records : List Record) (t : List Character) (c : Character) → c.marks ≤ 7
+taken_character : (supply : Option ℕ) (records : List Record) (t : List Character) (c : Character) → c.marks ≤ 7
     → outcome_for supply records t (character c) ≡ outcome_of flow_channel taken (channels_of supply records) (t ++ (c ∷ []))
 taken_character supply records t c l = rw (le-leb c.marks 7 l) refl
 
-pub refused_character : (supply : Option ℕ) (records : List Record) (t : List Character) (c : Character) → 7 < c.marks
+refused_character : (supply : Option ℕ) (records : List Record) (t : List Character) (c : Character) → 7 < c.marks
     → outcome_for supply records t (character c) ≡ outcome_of flow_channel (refused 109) (channels_of supply records) t
 refused_character supply records t c l = rw (lt-leb c.marks 7 l) refl
+
+module _ {X : Type 0} {G : Ghosts X} (p : Panel X G) (byte marks : ℕ) where
+  abbrev heard : Character
+  heard = record { byte = byte; marks = marks }
+
+  pub hears : (p' : Panel X G) (m : ℕ) → Ok m ≡ marks_in marks → p'.supply ≡ p.supply → records_in p' ≡ records_in p → HoldsMore p.receiver p'.receiver (character_of byte m) → Does p p' (character heard) taken
+  hears p' m e keeps same more =
+      let k = taken_by (leb marks 7) m marks refl e in
+      let all : Always p p' (character heard) taken = λ t h.
+      let u : Holds p'.receiver (t ++ (heard ∷ [])) = subst (λ (n : ℕ). Holds p'.receiver (t ++ (character_of byte n ∷ []))) k.0 (more t h) in
+      let c = comes p.supply (records_in p) p'.receiver (outcome_in p t (character heard)) taken (t ++ (heard ∷ [])) (taken_character p.supply (records_in p) t heard k.1) u in
+      record { result_is = c.result_is; records_are = same ∙ c.records_are; holds = c.holds } in
+      does p p' (character heard) taken keeps all
+
+  pub unheard : (n : ℕ) → Err n ≡ marks_in marks → Does p p (character heard) (refused n)
+  unheard n e =
+      let k = refused_by (leb marks 7) n marks refl e in
+      rw k.0 (refuses p (character heard) 109 (λ t. refused_character p.supply (records_in p) t heard k.1))

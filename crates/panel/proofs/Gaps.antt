@@ -1,86 +1,102 @@
 -- A gap serves just what the run relation says.
-use Rattle.std.proofs.Common.{◌≡◌, ℕ, ◌+◌, ◌<◌, ◌≤◌, min, Bool, true, false, cond, ◌&&◌, ltb, leb, List, [], ◌∷◌, length, set, IfSome, Some, None, Option, length-set, sym, refl, ap, ◌∙◌, subst, inl, inr, arith}
-use Rattle.std.specs.Result.{result_ok}
+use Rattle.std.proofs.Common.{◌≡◌, ℕ, suc, ◌+◌, ◌<◌, ◌≤◌, min, Bool, true, false, cond, ◌&&◌, ltb, leb, List, [], ◌∷◌, length, set, IfSome, Some, None, Option, slice_get, length-set, sym, refl, ap, subst, ◌∙◌, inl, inr, arith}
 use Rattle.std.specs.List.{AllByRecursion}
+use Rattle.std.specs.Option.{option_map, option_and_then, option_map_or}
+use Rattle.std.specs.Result.{result_ok}
 use Rattle.std.proofs.ByRecursion.{All-drop}
-use Rattle.std.proofs.lemmas.List.{take_all}
 use Rattle.std.proofs.lemmas.Bool.{cases_Bool, le-leb, le-ltb, ltb-true, ltb-false, cond-true}
 use Rattle.std.proofs.lemmas.Bool.Decides.{nat_tests}
+use Rattle.std.proofs.lemmas.List.{take_all}
 use Rattle.frame.specs.Frames.{Parts, request_frame}
 use Rattle.frame.specs.Transmissions.{preambles_of, span_of}
 use Rattle.frame.proofs.Frames.{request_limit}
 use Rattle.header.specs.Shares.{capacity_of}
-use Rattle.line.specs.Answers.{outcome, own_outcome, refused, answer_bytes}
-use Rattle.line.specs.Answers as line
-use Rattle.line.specs.Characters.{Character, Reception, received}
-use Rattle.line.specs.Whole.{frame_of}
+use Rattle.line.specs.Addressing.{means?}
+use Rattle.line.specs.Characters.{Character, Reception, bytes_in, received}
+use Rattle.line.specs.Codes.{asked_share}
+use Rattle.line.specs.Judgements.{Judgement, refused, judgement, own_judgement}
+use Rattle.line.specs.declared.codes.ResponseCode.TheVariants.{AccessRestricted}
 use Rattle.rack.specs.Meaning.{channel_of}
-use Rattle.receiver.specs.Holding.{Holds}
-use Rattle.receiver.specs.Summaries.{Summary, summary_of, held, reception}
-use Rattle.receiver.specs.declared.state.Receiver.{Receiver}
 use Rattle.record.specs.declared.Record.{Record}
-use Rattle.runs.specs.Channel as flow
-use Rattle.runs.specs.Channel.{flow_channel, frame_in, means_frame, nameplate}
-use Rattle.runs.specs.Damage.{bytes_in}
-use Rattle.runs.specs.Outcomes.{Outcome, outcome_of, sole, answered_by, ended}
-use Rattle.runs.specs.Outcomes as runs
-use Rattle.runs.specs.Places.{next_place, only_place}
+use Rattle.runs.specs.Channel.{flow_channel, frame_in, asks?, denial_to, reply_to as own_reply, after_frame}
+use Rattle.runs.specs.Outcomes.{Outcome, outcome, outcome_of, sole, answered_by, ended}
+use Rattle.runs.specs.Places.{only_place}
 use Rattle.runs.specs.Shares.{others}
 use Rattle.runs.specs.Traces.{gap, silent, answered}
+use Rattle.runs.proofs.Judgements.{judgement_split}
+use Rattle.runs.proofs.Places.{at_get, set_same}
 use Rattle.runs.proofs.Unsound.{whole_frame}
 use Rattle.serving.specs.Meant.{sole_meant}
-use Rattle.serving.specs.Serving.{Served, silence, header_for, served_by, served_record, served_place, served_frame, served, served_into}
-use Rattle.serving.proofs.Writes.{set_record, record_of_channel}
-use Rattle.panel.specs.Panels.{outcome_for, served_reception, panel_served, served_result}
+use Rattle.serving.specs.Serving.{Answering, allotment_of, answering_by, answering_at, answering_to, records_after}
+use Rattle.receiver.specs.Summaries.{Summary, summary_of, held, handed_on}
+use Rattle.receiver.specs.Holding.{Holds}
+use Rattle.receiver.specs.declared.state.Receiver.{Receiver}
+use Rattle.panel.specs.Panels.{outcome_for, answering_result}
 use Rattle.panel.proofs.Doing.{Comes, comes}
 use Rattle.panel.proofs.Places.{element_channel}
-use Rattle.panel.proofs.Splits.{outcome_split}
 
--- what a call leaves of what was served
-abbrev outcome_as : Served → Outcome flow_channel
-outcome_as s = outcome_of flow_channel (served_result s.answer) s.records []
+-- what an answering channel leaves of the records, and its answer
+abbrev pub outcome_as : List Record → Option Answering → Outcome flow_channel
+outcome_as records answering = outcome_of flow_channel (answering_result answering) (records_after answering records) []
 
-module _ (supply : ℕ) (rs : List Record) (t : List Character) (f : Parts) (framed : frame_in t ≡ Some f) (k : ℕ) where
+module _ (supply : ℕ) (records : List Record) (t : List Character) (place : ℕ) (r : Record) where
   abbrev x : Reception
   x = received t
 
-  -- the outcome at a channel, by what its frame says
-  abbrev chosen : Record → Option Parts → Outcome flow_channel
-  chosen r o =
-      cond (flow.asks_frame o x r && ltb (capacity_of supply) (others flow_channel rs k + flow.asked_frame o (nameplate r)))
-      (outcome_of flow_channel (answered k (flow.denial_frame o r)) rs [])
-      (outcome_of flow_channel (answered k (flow.answer_frame o x r)) (set rs k (flow.served_frame o x r)) [])
+  -- the outcome at a channel, by the frame of the transmission
+  abbrev chosen : Option Parts → Outcome flow_channel
+  chosen o =
+      cond (option_map_or (asks? x r) o false && ltb (capacity_of supply) (others flow_channel records place + option_map_or (λ f. asked_share f.«data» r.fields.full_scale) o 0))
+      (outcome_of flow_channel (answered place (option_map_or (denial_to r) o [])) records [])
+      (outcome_of flow_channel (answered place (option_map_or (own_reply x r) o [])) (set records place (option_map_or (after_frame x r) o r)) [])
 
-  objected : (r : Record) (b : Bool) → channel_of rs k ≡ Some r
-      → cond b (outcome_of flow_channel (answered k (answer_bytes f (refused 16 r))) rs []) (outcome_of flow_channel (answered k (answer_bytes f (own_outcome x f r))) (set rs k (own_outcome x f r).after) [])
-      ≡ outcome_as (served_by rs f k (cond b (refused 16 r) (own_outcome x f r)))
-  objected r true e = ap (λ (qs : List Record). outcome_of flow_channel (answered k (answer_bytes f (refused 16 r))) qs []) (sym (set_record rs k r (record_of_channel rs k r e)))
-  objected r false e = refl
+  abbrev judged : Parts → Judgement → Outcome flow_channel
+  judged f j = outcome_as records (Some (answering_by f place r j))
 
-  at_record : (o : Option Record) → channel_of rs k ≡ o → answered_by flow_channel (capacity_of supply) rs t k o ≡ outcome_as (served_record supply rs x f k o)
-  at_record (Some r) e =
-      ap (chosen r) framed
-      ∙ (objected r (flow.asks_frame (Some f) x r && ltb (capacity_of supply) (others flow_channel rs k + flow.asked_frame (Some f) (nameplate r))) e
-      ∙ ap (λ (o : line.Outcome). outcome_as (served_by rs f k o)) (sym (outcome_split x f r (header_for supply rs k))))
-  at_record None e = refl
+  objected : (f : Parts) (b : Bool) → slice_get records place ≡ Some r
+      → cond b (outcome_of flow_channel (answered place (denial_to r f)) records []) (judged f (own_judgement x f r.fields)) ≡ judged f (cond b (refused AccessRestricted) (own_judgement x f r.fields))
+  objected f true e = ap (λ (qs : List Record). outcome_of flow_channel (answered place (denial_to r f)) qs []) (sym (set_same (at_get records place e)))
+  objected f false e = refl
 
-module _ (supply : ℕ) (rs : List Record) (t : List Character) (few : length rs ≤ 15) where
-  at_place : (f : Parts) → frame_in t ≡ Some f → (o : Option ℕ) → ended flow_channel (capacity_of supply) rs t o ≡ outcome_as (served_place supply rs (received t) f o)
-  at_place f e (Some k) = ap (answered_by flow_channel (capacity_of supply) rs t k) (element_channel rs k few) ∙ at_record supply rs t f e k (channel_of rs k) refl
-  at_place f e None = refl
+  answers : (f : Parts) → frame_in t ≡ Some f → slice_get records place ≡ Some r
+      → answered_by flow_channel (capacity_of supply) records t place (Some r) ≡ judged f (judgement x f r.fields (allotment_of supply records place))
+  answers f framed e =
+      ap chosen framed
+      ∙ (objected f (asks? x r f && ltb (capacity_of supply) (others flow_channel records place + asked_share f.«data» r.fields.full_scale)) e
+      ∙ ap (judged f) (sym (judgement_split x f r (allotment_of supply records place))))
 
-  never : (qs : List Record) → only_place (means_frame None) qs ≡ None
+-- what answers, by the frame
+abbrev by_frame : ℕ → List Record → List Character → Option Parts → Option Answering
+by_frame supply records t o = option_and_then (λ f. option_and_then (λ place. answering_at supply records (received t) f place) (sole_meant f records)) o
+
+module _ (supply : ℕ) (records : List Record) (t : List Character) (few : length records ≤ 15) where
+  at_record : (f : Parts) → frame_in t ≡ Some f → (place : ℕ) (o : Option Record) → channel_of records place ≡ o
+      → answered_by flow_channel (capacity_of supply) records t place o
+      ≡ outcome_as records (option_map (λ r. answering_by f place r (judgement (received t) f r.fields (allotment_of supply records place))) o)
+  at_record f framed place (Some r) e = answers supply records t place r f framed (element_channel records place few ∙ e)
+  at_record f framed place None e = refl
+
+  at_place : (f : Parts) → frame_in t ≡ Some f → (o : Option ℕ)
+      → ended flow_channel (capacity_of supply) records t o ≡ outcome_as records (option_and_then (λ place. answering_at supply records (received t) f place) o)
+  at_place f framed (Some place) = ap (answered_by flow_channel (capacity_of supply) records t place) (element_channel records place few) ∙ at_record f framed place (channel_of records place) refl
+  at_place f framed None = refl
+
+  -- whom a transmission means, by its frame
+  abbrev meant_by : Option Parts → Record → Bool
+  meant_by o r = option_map_or (λ f. means? f r) o false
+
+  never : (qs : List Record) → only_place (meant_by None) qs ≡ None
   never [] = refl
-  never (q ∷ qs) = ap next_place (never qs)
+  never (q ∷ qs) = ap (λ o. option_map suc o) (never qs)
 
-  at_frame : (o : Option Parts) → frame_in t ≡ o → ended flow_channel (capacity_of supply) rs t (sole flow_channel rs t) ≡ outcome_as (served_frame supply rs (received t) o)
+  at_frame : (o : Option Parts) → frame_in t ≡ o → ended flow_channel (capacity_of supply) records t (sole flow_channel records t) ≡ outcome_as records (by_frame supply records t o)
   at_frame (Some f) e =
-      ap (ended flow_channel (capacity_of supply) rs t) (ap (λ (o : Option Parts). only_place (means_frame o) rs) e ∙ sym (cond-true _ _ _ (le-leb (length rs) 15 few)))
-      ∙ at_place f e (sole_meant f rs)
-  at_frame None e = ap (ended flow_channel (capacity_of supply) rs t) (ap (λ (o : Option Parts). only_place (means_frame o) rs) e ∙ never rs)
+      ap (ended flow_channel (capacity_of supply) records t) (ap (λ (o : Option Parts). only_place (meant_by o) records) e ∙ sym (cond-true _ _ _ (le-leb (length records) 15 few)))
+      ∙ at_place f e (sole_meant f records)
+  at_frame None e = ap (ended flow_channel (capacity_of supply) records t) (ap (λ (o : Option Parts). only_place (meant_by o) records) e ∙ never records)
 
-  pub gap_served : (n : ℕ) → 64 ≤ n → runs.outcome flow_channel (capacity_of supply) rs t (gap n) ≡ outcome_as (served supply rs (received t))
-  gap_served n l = rw (le-ltb n 64 l) (at_frame (frame_in t) refl)
+  gap_replied : (n : ℕ) → 64 ≤ n → outcome flow_channel (capacity_of supply) records t (gap n) ≡ outcome_as records (answering_to (Some supply) records (Some (received t)))
+  gap_replied n l = rw (le-ltb n 64 l) (at_frame (frame_in t) refl)
 
 -- two preambles are as good as more
 abbrev low : Reception → Reception
@@ -88,22 +104,6 @@ low x = record { preambles = min x.preambles 2; span = x.span; marks = x.marks }
 
 two : (p : ℕ) → leb 2 (min p 2) ≡ leb 2 p
 two p = grind (arith, nat_tests)
-
-module _ (supply : ℕ) (rs : List Record) (x : Reception) where
-  low_record : (f : Parts) (k : ℕ) (o : Option Record) → served_record supply rs (low x) f k o ≡ served_record supply rs x f k o
-  low_record f k (Some r) = refl
-  low_record f k None = refl
-
-  low_place : (f : Parts) (o : Option ℕ) → served_place supply rs (low x) f o ≡ served_place supply rs x f o
-  low_place f (Some k) = low_record f k (channel_of rs k)
-  low_place f None = refl
-
-  low_frame : (o : Option Parts) → served_frame supply rs (low x) o ≡ served_frame supply rs x o
-  low_frame (Some f) = low_place f (sole_meant f rs)
-  low_frame None = refl
-
-  low_served : served supply rs (low x) ≡ served supply rs x
-  low_served = ap (λ b. served_frame supply rs (low x) (cond b (result_ok (request_frame x.span)) None)) (two x.preambles) ∙ low_frame (frame_of x)
 
 -- more than 264 bytes are no frame
 bytes_all : (t : List Character) → AllByRecursion (λ c. c.byte < 256) t → AllByRecursion (λ b. b < 256) (bytes_in t)
@@ -116,45 +116,37 @@ long_none t a l (Some f) e =
     absurd (omega arith)
 long_none t a l None e = refl
 
--- what is kept of a transmission serves as the transmission does
-kept_served : (supply : ℕ) (rs : List Record) (t : List Character) → AllByRecursion (λ c. c.byte < 256) t → served_reception supply rs (reception (summary_of (received t))) ≡ served supply rs (received t)
-kept_served supply rs t a = elim (cases_Bool (ltb 264 (length (span_of (bytes_in t))))) [
-  | inl b ↦ rw b (ap (served_frame supply rs (received t)) (sym (long_none t a (ltb-true 264 (length (span_of (bytes_in t))) b) (frame_in t) refl)))
-  | inr b ↦
-      let s = take_all 264 (span_of (bytes_in t)) (ltb-false 264 (length (span_of (bytes_in t))) b) in
-      rw b (ap (λ (u : List ℕ). served supply rs (record { preambles = min (received t).preambles 2; span = u; marks = (received t).marks })) s ∙ low_served supply rs (received t))
-]
+module _ (supply : ℕ) (records : List Record) (t : List Character) where
+  low_replied : answering_to (Some supply) records (Some (low (received t))) ≡ answering_to (Some supply) records (Some (received t))
+  low_replied = ap (λ b. by_frame supply records t (cond b (result_ok (request_frame (received t).span)) None)) (two (received t).preambles)
+
+  -- what is kept of a transmission is answered as the transmission is
+  kept_replied : AllByRecursion (λ c. c.byte < 256) t → answering_to (Some supply) records (handed_on (summary_of (received t))) ≡ answering_to (Some supply) records (Some (received t))
+  kept_replied a = elim (cases_Bool (ltb 264 (length (span_of (bytes_in t))))) [
+    | inl b ↦ rw b (ap (by_frame supply records t) (sym (long_none t a (ltb-true 264 (length (span_of (bytes_in t))) b) (frame_in t) refl)))
+    | inr b ↦
+        let s = take_all 264 (span_of (bytes_in t)) (ltb-false 264 (length (span_of (bytes_in t))) b) in
+        rw b (ap (λ (u : List ℕ). answering_to (Some supply) records (Some (record { preambles = min (received t).preambles 2; span = u; marks = (received t).marks }))) s ∙ low_replied)
+  ]
 
 -- without channels a gap is silent
 silent_gap : (records : List Record) (t : List Character) (n : ℕ) → 64 ≤ n → outcome_for None records t (gap n) ≡ outcome_of flow_channel silent [] []
 silent_gap records t n l = rw (le-ltb n 64 l) refl
 
-module _ (rs : List Record) (x x' : Receiver) (t : List Character) (n : ℕ) (holds : Holds x t) (room : 64 ≤ n) (new : Holds x' []) where
-  set_comes : (supply : ℕ) → length rs ≤ 15 → Comes (Some supply) rs (panel_served (Some supply) rs (held x)).records x' (outcome_for (Some supply) rs t (gap n)) (served_result (panel_served (Some supply) rs (held x)).answer)
-  set_comes supply few =
-      let s : panel_served (Some supply) rs (held x) ≡ served supply rs (received t) = ap (λ (y : Summary). served_reception supply rs (reception y)) holds.kept ∙ kept_served supply rs t holds.bytes in
-      let o : outcome_for (Some supply) rs t (gap n) ≡ outcome_as (panel_served (Some supply) rs (held x)) = gap_served supply rs t few n room ∙ ap outcome_as (sym s) in
-      let y = panel_served (Some supply) rs (held x) in
-      subst (λ (p : Outcome flow_channel). Comes (Some supply) rs y.records x' p (served_result y.answer)) (sym o) (record { result_is = refl; records_are = refl; holds = new })
+module _ (records : List Record) (x x' : Receiver) (t : List Character) (n : ℕ) (holds : Holds x t) (room : 64 ≤ n) (new : Holds x' []) where
+  -- what answers, by what the receiver keeps
+  abbrev answering : Option ℕ → Option Answering
+  answering supply = answering_to supply records (handed_on (held x))
 
-  pub gap_comes : (supply : Option ℕ) → IfSome supply (λ _. length rs ≤ 15)
-      → Comes supply rs (panel_served supply rs (held x)).records x' (outcome_for supply rs t (gap n)) (served_result (panel_served supply rs (held x)).answer)
-  gap_comes None few = comes None rs x' (outcome_for None rs t (gap n)) silent [] (silent_gap rs t n room) new
-  gap_comes (Some supply) few = set_comes supply few
+  pub gap_comes : (supply : Option ℕ) → IfSome supply (λ _. length records ≤ 15)
+      → Comes supply records (records_after (answering supply) records) x' (outcome_for supply records t (gap n)) (answering_result (answering supply))
+  gap_comes None few = comes None records x' (outcome_for None records t (gap n)) silent [] (silent_gap records t n room) new
+  gap_comes (Some supply) few =
+      let k : answering (Some supply) ≡ answering_to (Some supply) records (Some (received t)) = ap (λ (s : Summary). answering_to (Some supply) records (handed_on s)) holds.kept ∙ kept_replied supply records t holds.bytes in
+      let o : outcome_for (Some supply) records t (gap n) ≡ outcome_as records (answering (Some supply)) = gap_replied supply records t few n room ∙ ap (outcome_as records) (sym k) in
+      subst (λ (p : Outcome flow_channel). Comes (Some supply) records (records_after (answering (Some supply)) records) x' p (answering_result (answering (Some supply)))) (sym o) (record { result_is = refl; records_are = refl; holds = new })
 
--- a gap keeps the number of records
-module _ (supply : ℕ) (rs : List Record) where
-  count_record : (x : Reception) (f : Parts) (k : ℕ) (o : Option Record) → length (served_record supply rs x f k o).records ≡ length rs
-  count_record x f k (Some r) = length-set rs k (outcome x f r (header_for supply rs k)).after
-  count_record x f k None = refl
-
-  count_place : (x : Reception) (f : Parts) (o : Option ℕ) → length (served_place supply rs x f o).records ≡ length rs
-  count_place x f (Some k) = count_record x f k (channel_of rs k)
-  count_place x f None = refl
-
-  count_frame : (x : Reception) (o : Option Parts) → length (served_frame supply rs x o).records ≡ length rs
-  count_frame x (Some f) = count_place x f (sole_meant f rs)
-  count_frame x None = refl
-
-  pub count_into : (buffer : List ℕ) (x : Reception) → length (served_into buffer supply rs x).records ≡ length rs
-  count_into buffer x = elim (ltb (length buffer) 64) as (λ b. length (cond b (silence rs) (served supply rs x)).records ≡ length rs) [ true ↦ refl | false ↦ count_frame x (frame_of x) ]
+-- an answering channel keeps the number of records
+pub count_after : (answering : Option Answering) (records : List Record) → length (records_after answering records) ≡ length records
+count_after (Some r) records = length-set records r.channel r.after
+count_after None records = refl

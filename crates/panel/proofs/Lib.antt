@@ -2,7 +2,6 @@ pub mod Panels
 pub mod Doing
 pub mod Places
 pub mod Locals
-pub mod Splits
 pub mod Gaps
 pub mod Results
 pub mod Working

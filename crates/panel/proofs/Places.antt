@@ -1,24 +1,23 @@
 -- The record at a place, as the run relation and as the rack say it.
-use Rattle.std.proofs.Common.{◌≡◌, ℕ, zero, suc, ◌<◌, ◌≤◌, true, List, [], ◌∷◌, ◌++◌, length, drop, is_some, IfSome, Some, None, Ok, Err, Option, Result, MatchOption, sym, refl, ap, ◌∙◌, subst, true≢false, slice_get}
-use Rattle.std.proofs.lemmas.Bool.{lt-ltb, le-ltb}
+use Rattle.std.proofs.Common.{inl, inr, arith, ltb, leb, ◌≡◌, ℕ, ◌<◌, ◌≤◌, true, List, ◌++◌, length, drop, is_some, IfSome, Some, None, Ok, Err, Option, Result, MatchOption, sym, refl, ap, ◌∙◌, subst, true≢false, slice_get}
+use Rattle.std.proofs.lemmas.Bool.{lt-leb, lt-ltb, le-ltb, and_right, cond-false, cases_lt}
 use Rattle.std.specs.Option.{ok_or}
 use Rattle.refusals.specs.Filling.{in_front}
 use Rattle.refusals.specs.Refusals.{number_of}
 use Rattle.refusals.specs.declared.Refusal.{Refusal}
 use Rattle.refusals.specs.declared.Refusal.TheVariants.{NoChannel, ShortBuffer}
 use Rattle.record.specs.Layout.{encoded}
-use Rattle.rack.specs.Meaning.{record_at, channel_of}
+use Rattle.rack.specs.Meaning.{told, channel_of}
 use Rattle.record.specs.declared.Record.{Record}
-use Rattle.serving.proofs.Writes.{channel_record}
+use Rattle.rack.proofs.Channels.{channel_plain}
+use Rattle.std.proofs.lemmas.Option.{slice_get_past}
 use Rattle.panel.specs.Panels.{channels_of, look_record, look_buffer}
 
-element_record : (records : List Record) (k : ℕ) → slice_get records k ≡ record_at records k
-element_record [] k = refl
-element_record (r ∷ records) zero = refl
-element_record (r ∷ records) (suc k) = element_record records k
-
 pub element_channel : (records : List Record) (k : ℕ) → length records ≤ 15 → slice_get records k ≡ channel_of records k
-element_channel records k few = element_record records k ∙ sym (channel_record records k few)
+element_channel records k few = elim (cases_lt k 15) [
+  | inl l ↦ sym (channel_plain records k (omega arith))
+  | inr l ↦ slice_get_past records k (omega arith) ∙ sym (cond-false _ _ _ (and_right (ltb k (told records)) (leb k 14) (lt-leb k 14 (omega arith))))
+]
 
 -- what a look says, by the record that is there
 pub record Looked (buffer : List ℕ) (said : Result (Unit {0}) ℕ) (after : List ℕ) (o : Option Record) : Type 0 where

@@ -1,23 +1,23 @@
 -- What a call on a panel does.
-use Rattle.std.specs.Prelude.{◌≡◌, ℕ, if◌then◌else◌, List, [], ◌++◌, length, take, drop, Some, None, Ok, Err, Option, leb, nat_lt, slice_get}
+use Rattle.std.specs.Prelude.{◌≡◌, ℕ, if◌then◌else◌, List, [], length, take, Some, None, Ok, Err, Option, leb, nat_lt, slice_get, MatchOption}
 use Rattle.std.specs.declared.result.Result as results
 use Rattle.header.specs.Shares.{capacity_of}
-use Rattle.line.specs.Characters.{Character, Reception}
+use Rattle.line.specs.Characters.{Character}
 use Rattle.rack.specs.declared.racks.Rack.{Ghosts}
-use Rattle.rack.specs.declared.changes.Change.{Change}
+use Rattle.rack.specs.Edits.{Edit}
 use Rattle.receiver.specs.Holding.{Holds, pending}
-use Rattle.receiver.specs.Summaries.{Summary, reception, held}
+use Rattle.receiver.specs.Summaries.{handed_on, held}
 use Rattle.record.specs.Layout.{encoded}
 use Rattle.record.specs.declared.Record.{Record}
 use Rattle.refusals.specs.Filling.{in_front}
-use Rattle.refusals.specs.Refusals.{number_of}
+use Rattle.refusals.specs.Refusals.{number_of, numbered}
 use Rattle.refusals.specs.declared.Refusal.{Refusal}
-use Rattle.runs.specs.Channel.{flow_channel, Operation, change_of}
+use Rattle.runs.specs.Channel.{flow_channel, Operation, edit_for}
 use Rattle.runs.specs.Outcomes.{Outcome, outcome}
 use Rattle.runs.specs.Steps.{Step}
 use Rattle.runs.specs.Traces.{Call, Result, gap, local, taken, refused, silent, answered, ◌▸◌}
-use Rattle.serving.specs.Serving.{Served, silence, served}
-use Rattle.serving.specs.declared.serving.Answer.{Answer}
+use Rattle.serving.specs.Serving.{Answering, answering_to, answering_in, served, WritesOf, Lawfully}
+use Rattle.serving.specs.declared.answers.Answer.{Answer}
 use Rattle.panel.specs.declared.state.Panel.{Panel}
 
 -- The channels of a panel are those of its rack, once a set-up was taken; before, it has none.
@@ -63,10 +63,6 @@ module _ {X : Type 0} {G : Ghosts X} where
     pub steps : (supply : ℕ) → p.supply ≡ Some supply → (t : List Character) → Holds p.receiver t
         → Step flow_channel (capacity_of supply) (records_in p) t (call ▸ result) (records_in p') (outcome_in p t call).pending
 
-  -- what is done at a channel itself, where it is this write
-  abbrev pub Operates : Panel X G → Panel X G → ℕ → Change → Result flow_channel → Type 0
-  Operates p p' channel change result = (u : Operation) → change ≡ change_of u → Does p p' (local channel u) result
-
 -- a call's answer as the result of a trace
 abbrev pub result_of : results.Result (Unit {0}) Refusal → Result flow_channel
 result_of (Ok u) = taken
@@ -78,6 +74,33 @@ gap_result_of (Ok None) buffer = silent
 gap_result_of (Ok (Some a)) buffer = answered a.channel (take a.length buffer)
 gap_result_of (Err e) buffer = refused (number_of e)
 
+module _ {X : Type 0} {G : Ghosts X} where
+  -- the rack of a panel that was set up goes through just one write, and that of another through none
+  abbrev pub OneWrite : Panel X G → Panel X G → ℕ → Edit → results.Result (Unit {0}) ℕ → Type 0
+  OneWrite p p' channel edit answer =
+      MatchOption p.supply (p'.rack ≡ p.rack) (λ _. G.wrote p.rack p'.rack channel edit answer)
+
+  -- what is done at a channel itself: a call on the panel, and one write of its rack
+  pub record Operated (p p' : Panel X G) (channel : ℕ) (operation : Operation) (result : results.Result (Unit {0}) Refusal) : Type 0 where
+    pub does : Does p p' (local channel operation) (result_of result)
+    pub once : OneWrite p p' channel (edit_for operation) (numbered result)
+
+  abbrev pub Operates : Panel X G → Panel X G → ℕ → Edit → results.Result (Unit {0}) Refusal → Type 0
+  Operates p p' channel edit result = (o : Operation) → edit ≡ edit_for o → Operated p p' channel o result
+
+  -- which channel answers a gap with a lent buffer, if one does, by what, and what it writes
+  abbrev pub answering_for : Panel X G → List ℕ → Option Answering
+  answering_for p buffer = answering_in (served p.supply (records_in p) (handed_on (held p.receiver)) buffer)
+
+  -- the rack goes through exactly these writes, and is the same value where none answers
+  abbrev pub Wrote : Panel X G → Panel X G → Option Answering → Type 0
+  Wrote p p' answering = WritesOf G.wrote answering p.rack p'.rack
+
+  -- the law of answers, for the transmission that is answered
+  abbrev pub AnsweredLawfully : Panel X G → Type 0
+  AnsweredLawfully p =
+      let received = handed_on (held p.receiver) in Lawfully received (answering_to p.supply (records_in p) received)
+
 -- a gap with a lent buffer
 abbrev pub gap_with : List ℕ → Call flow_channel
 gap_with buffer = gap (length buffer)
@@ -86,22 +109,10 @@ gap_with buffer = gap (length buffer)
 abbrev pub call_number : ℕ → ℕ
 call_number number = if leb 100 number then number else 110
 
--- what a panel's channels do at the end of a transmission of which this is kept
-abbrev pub served_reception : ℕ → List Record → Option Reception → Served
-served_reception supply records (Some x) = served supply records x
-served_reception supply records None = silence records
-
-abbrev pub panel_served : Option ℕ → List Record → Summary → Served
-panel_served (Some supply) records s = served_reception supply records (reception s)
-panel_served None records s = silence records
-
-abbrev pub served_in : {X : Type 0} {G : Ghosts X} → Panel X G → Served
-served_in p = panel_served p.supply (records_in p) (held p.receiver)
-
 -- who answers, if anybody, as the result of a trace
-abbrev pub served_result : Option (ℕ × List ℕ) → Result flow_channel
-served_result (Some a) = answered a.0 a.1
-served_result None = silent
+abbrev pub answering_result : Option Answering → Result flow_channel
+answering_result (Some a) = answered a.channel a.bytes
+answering_result None = silent
 
 -- the buffer after a call: an answer stands in its front, and no other result touches it
 abbrev pub buffer_of : Result flow_channel → List ℕ → List ℕ

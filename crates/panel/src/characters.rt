@@ -8,12 +8,10 @@ ghost use Rattle.panel.specs.Panels.{Does, result_of};
 ghost use Rattle.panel.specs.Working.{GoesOn};
 
 use crate::state::Panel;
+use line::Marks;
 use rack::Rack;
 use receiver::Receiver;
 use refusals::Refusal;
-
-// All three marks together.
-const MAX_MARKS: u8 = 7;
 
 impl<R: Rack> Panel<R> {
     /// A panel that was not set up: it has no channels yet.
@@ -36,9 +34,7 @@ impl<R: Rack> Panel<R> {
         ensures same { is_ok result ≡ false → self.new ≡ self.old }
         ensures rack { self.new.rack ≡ self.old.rack }
     {
-        if marks > MAX_MARKS {
-            return Err(Refusal::Marks);
-        }
+        let marks = Marks::try_from(marks)?;
         self.receiver.push(byte, marks);
         Ok(())
     }

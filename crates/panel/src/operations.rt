@@ -2,11 +2,13 @@
 
 ghost use Rattle.std.specs.Prelude.{◌≡◌, false, is_ok};
 ghost use Rattle.rack.specs.Refusals as rack;
-ghost use Rattle.refusals.specs.Refusals.{number_of};
+ghost use Rattle.rack.specs.Edits as edits;
+ghost use Rattle.rack.specs.Edits.{edit_of};
+ghost use Rattle.refusals.specs.Refusals.{number_of, numbered};
 ghost use Rattle.runs.specs.Channel.{sample as sampled, key as turned};
 ghost use Rattle.runs.specs.Traces.{local};
 ghost use Rattle.panel.specs.Working.{GoesOn};
-ghost use Rattle.panel.specs.Panels.{Does, Operates, call_number, result_of};
+ghost use Rattle.panel.specs.Panels.{Does, OneWrite, Operates, call_number, result_of};
 
 use crate::state::Panel;
 use rack::{Change, Rack, RackRefusal};
@@ -28,6 +30,7 @@ impl<R: Rack> Panel<R> {
     pub fn sample(&mut self, channel: u8, reading: Reading) -> Result<(), Refusal>
         ensures does { Does self.old self.new (local channel (sampled reading)) (result_of result) }
         ensures on { GoesOn self.old self.new (local channel (sampled reading)) (result_of result) }
+        ensures once { OneWrite self.old self.new channel (edits.sample reading) (numbered result) }
         ensures same { is_ok result ≡ false → self.new ≡ self.old }
     {
         self.operate(channel, Change::Sample(reading))
@@ -37,6 +40,7 @@ impl<R: Rack> Panel<R> {
     pub fn key(&mut self, channel: u8, open: bool) -> Result<(), Refusal>
         ensures does { Does self.old self.new (local channel (turned «open»)) (result_of result) }
         ensures on { GoesOn self.old self.new (local channel (turned «open»)) (result_of result) }
+        ensures once { OneWrite self.old self.new channel (edits.key «open») (numbered result) }
         ensures same { is_ok result ≡ false → self.new ≡ self.old }
     {
         self.operate(channel, Change::Key(open))
@@ -44,7 +48,7 @@ impl<R: Rack> Panel<R> {
 
     // Writes what a local operation changes.
     fn operate(&mut self, channel: u8, change: Change<'_>) -> Result<(), Refusal>
-        ensures does { Operates self.old self.new channel change.entry (result_of result) }
+        ensures operates { Operates self.old self.new channel (edit_of change.entry) result }
         ensures same { is_ok result ≡ false → self.new ≡ self.old }
     {
         if self.supply.is_none() {

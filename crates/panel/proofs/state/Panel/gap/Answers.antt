@@ -1,31 +1,51 @@
-use Rattle.std.proofs.Common.{length, Ok, arith, rules}
-use Rattle.runs.specs.Traces.{gap}
-use Rattle.panel.specs.Panels.{records_in, served_in, gap_result_of}
-use Rattle.panel.proofs.Doing.{refuses}
-use Rattle.panel.proofs.Results.{gap_result, gap_bound, buffer_is, gap_does, short_gap, silent_none}
+use Rattle.std.proofs.Common.{length, Err, Option, arith, subst, ap, ◌∙◌}
+use Rattle.std.specs.Option.{option_map}
+use Rattle.std.proofs.lemmas.Result.{err_from_is_err_and}
+use Rattle.line.specs.Characters.{Reception}
+use Rattle.line.specs.Views.{reception}
+use Rattle.serving.specs.Serving.{Lawfully, answering_to}
+use Rattle.panel.specs.Panels.{records_in}
+use Rattle.panel.proofs.Gaps.{count_after}
+use Rattle.panel.proofs.Panels.{few_after}
+use Rattle.panel.proofs.Results.{gap_ended, gap_failed, gap_same}
 use Rattle.panel.proofs.Working.{goes_on}
 use Rattle.panel.proofs.state.Panel.gap.Goals as goal
-
-pub returns-then-out-lt-MAX_ANSWER : goal.returns-then-out-lt-MAX_ANSWER
-returns-then-out-lt-MAX_ANSWER g c =
-    let p = c.args.self.now in
-    let n = length c.args.out.now in
-    let d = refuses p (gap n) 102 (λ t. short_gap p.supply (records_in p) t n (omega arith)) in
-    record { does = d; on = goes_on d; buffer = search rules; bound = search rules; idle = search rules; same = search rules }
 
 pub returns : goal.returns
 returns g c =
     let p = c.args.self.now in
-    let out = c.args.out.now in
-    let e = c.end-answer in
-    let a = (served_in p).answer in
-    let y = gap_result out e.new.out e.result a e.ensures.answer e.ensures.buffer in
-    let d = gap_does p _ (length out) (gap_result_of (Ok e.result) e.new.out) (omega arith) c.clear.ensures e.ensures.supply e.ensures.records y in
+    let x = option_map reception c.received.result in
+    let k = gap_ended p c.serve.new.rack _ c.args.out.now c.serve.new.out x c.received.ensures.value c.clear.new.self c.in_ok-answer.answer c.in_ok-answer.ensures.serves c.clear.ensures (omega arith) in
     record {
-      does = d;
-      on = goes_on d;
-      buffer = buffer_is (gap_result_of (Ok e.result) e.new.out) a out e.new.out y e.ensures.buffer;
-      bound = gap_bound out e.new.out e.result a e.ensures.answer e.ensures.buffer (omega arith);
-      idle = λ s. e.ensures.idle (silent_none e.result e.new.out s);
-      same = search rules;
+      does = k.does;
+      on = goes_on k.does;
+      buffer = k.left;
+      bound = k.bound;
+      writes = k.writes;
+      idle = k.idle;
+      law = subst (λ (y : Option Reception). Lawfully y (answering_to p.supply (records_in p) y)) c.received.ensures.value c.in_ok-answer.ensures.law;
+      same = λ e. absurd (cc);
+    }
+
+pub invariant_of-self-2 : goal.invariant_of-self-2
+invariant_of-self-2 g c =
+    let p = c.args.self.now in
+    record { few = few_after p.supply (length (records_in p)) _ p.few (ap length c.serve.ensures.serves.leaves ∙ count_after _ (records_in p)) }
+
+pub returns-in_err-answer : goal.returns-in_err-answer
+returns-in_err-answer g c =
+    let p = c.args.self.now in
+    let x = option_map reception c.received.result in
+    let d = c.in_err-answer.field-0.0 in
+    let e = err_from_is_err_and c.from_residual.result c.from_residual.ensures.1 in
+    let k = gap_failed p c.serve.new.rack _ c.args.out.now c.serve.new.out x c.received.ensures.value d c.from_residual.result (e.1 ∙ ap Err e.2) c.in_err-answer.ensures.serves in
+    record {
+      does = k.does;
+      on = goes_on k.does;
+      buffer = k.left;
+      bound = k.bound;
+      writes = k.writes;
+      idle = k.idle;
+      law = subst (λ (y : Option Reception). Lawfully y (answering_to p.supply (records_in p) y)) c.received.ensures.value c.in_err-answer.ensures.law;
+      same = λ _. gap_same p c.serve.new.rack _ c.args.out.now c.serve.new.out x c.received.ensures.value d c.in_err-answer.ensures.serves;
     }

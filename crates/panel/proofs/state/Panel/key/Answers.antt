@@ -3,8 +3,7 @@ use Rattle.runs.specs.Channel.{key}
 use Rattle.panel.proofs.Working.{goes_on}
 use Rattle.panel.proofs.state.Panel.key.Goals as goal
 
-pub returns-clause-does : goal.returns-clause-does
-returns-clause-does g c = c.operate.ensures.does (key c.args.«open») refl
-
-pub returns-clause-on : goal.returns-clause-on
-returns-clause-on g c = goes_on (c.operate.ensures.does (key c.args.«open») refl)
+pub returns : goal.returns
+returns g c =
+    let o = c.operate.ensures.operates (key c.args.«open») refl in
+    record { does = o.does; on = goes_on o.does; once = o.once; same = c.operate.ensures.same }
