@@ -81,7 +81,8 @@ module _ {X : Type 0} {G : Ghosts X} where
       MatchOption p.supply (p'.rack ≡ p.rack) (λ _. G.wrote p.rack p'.rack channel edit answer)
 
   -- what is done at a channel itself: a call on the panel, and one write of its rack
-  pub record Operated (p p' : Panel X G) (channel : ℕ) (operation : Operation) (result : results.Result (Unit {0}) Refusal) : Type 0 where
+  pub record Operated (p p' : Panel X G) (channel : ℕ) (operation : Operation)
+      (result : results.Result (Unit {0}) Refusal) : Type 0 where
     pub does : Does p p' (local channel operation) (result_of result)
     pub once : OneWrite p p' channel (edit_for operation) (numbered result)
 
