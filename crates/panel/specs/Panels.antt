@@ -16,7 +16,7 @@ use Rattle.runs.specs.Channel.{flow_channel, Operation, edit_for}
 use Rattle.runs.specs.Outcomes.{Outcome, outcome}
 use Rattle.runs.specs.Steps.{Step}
 use Rattle.runs.specs.Traces.{Call, Result, gap, local, taken, refused, silent, answered, ◌▸◌}
-use Rattle.serving.specs.Serving.{Answering, answering_to, answering_in, served, WritesOf, Lawfully}
+use Rattle.serving.specs.Serving.{Answering, answering_in, served, WritesOf, Lawfully}
 use Rattle.serving.specs.declared.answers.Answer.{Answer}
 use Rattle.panel.specs.declared.state.Panel.{Panel}
 
@@ -98,9 +98,8 @@ module _ {X : Type 0} {G : Ghosts X} where
   Wrote p p' answering = WritesOf G.wrote answering p.rack p'.rack
 
   -- the law of answers, for the transmission that is answered
-  abbrev pub AnsweredLawfully : Panel X G → Type 0
-  AnsweredLawfully p =
-      let received = handed_on (held p.receiver) in Lawfully received (answering_to p.supply (records_in p) received)
+  abbrev pub AnsweredLawfully : Panel X G → List ℕ → Type 0
+  AnsweredLawfully p buffer = Lawfully (handed_on (held p.receiver)) (answering_for p buffer)
 
 -- a gap with a lent buffer
 abbrev pub gap_with : List ℕ → Call flow_channel

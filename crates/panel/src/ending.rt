@@ -20,7 +20,7 @@ impl<R: Rack> Panel<R> {
         ensures bound { IfOk result (λ o. IfSome o (λ a. a.length ≤ length out.old)) }
         ensures writes { Wrote self.old self.new (answering_for self.old out.old) }
         ensures idle { gap_result_of result out.new ≡ silent → self.new.rack ≡ self.old.rack }
-        ensures law { AnsweredLawfully self.old }
+        ensures law { AnsweredLawfully self.old out.old }
         ensures same { is_ok result ≡ false → self.new ≡ self.old }
     {
         let answer = serve(&mut self.rack, self.supply, self.receiver.received(), out)?;

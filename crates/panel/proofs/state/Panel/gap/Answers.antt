@@ -3,7 +3,7 @@ use Rattle.std.specs.Option.{option_map}
 use Rattle.std.proofs.lemmas.Result.{err_from_is_err_and}
 use Rattle.line.specs.Characters.{Reception}
 use Rattle.line.specs.Views.{reception}
-use Rattle.serving.specs.Serving.{Lawfully, answering_to}
+use Rattle.serving.specs.Serving.{Lawfully, answering_in, served}
 use Rattle.panel.specs.Panels.{records_in}
 use Rattle.panel.proofs.Gaps.{count_after}
 use Rattle.panel.proofs.Panels.{few_after}
@@ -23,7 +23,7 @@ returns g c =
       bound = k.bound;
       writes = k.writes;
       idle = k.idle;
-      law = subst (λ (y : Option Reception). Lawfully y (answering_to p.supply (records_in p) y)) c.received.ensures.value c.in_ok-answer.ensures.law;
+      law = subst (λ (y : Option Reception). Lawfully y (answering_in (served p.supply (records_in p) y c.args.out.now))) c.received.ensures.value c.in_ok-answer.ensures.law;
       same = λ e. absurd (cc);
     }
 
@@ -46,6 +46,6 @@ returns-in_err-answer g c =
       bound = k.bound;
       writes = k.writes;
       idle = k.idle;
-      law = subst (λ (y : Option Reception). Lawfully y (answering_to p.supply (records_in p) y)) c.received.ensures.value c.in_err-answer.ensures.law;
+      law = subst (λ (y : Option Reception). Lawfully y (answering_in (served p.supply (records_in p) y c.args.out.now))) c.received.ensures.value c.in_err-answer.ensures.law;
       same = λ _. gap_same p c.serve.new.rack _ c.args.out.now c.serve.new.out x c.received.ensures.value d c.in_err-answer.ensures.serves;
     }
