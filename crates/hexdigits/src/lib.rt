@@ -98,7 +98,8 @@ pub fn to_hex(heap: Global, bytes: &[u8]) -> Result<String, AllocError>
 
 /// Appends the digits of `bytes`; where memory is short, the text is as it was.
 pub fn push_hex(text: &mut Vec<u8>, bytes: &[u8]) -> Result<(), AllocError>
-    ensures text { text.new.items ≡ text.old.items ++ (if is_ok result then hex_of bytes.now else []) }
+    ensures text { text.new.items ≡
+        text.old.items ++ (if is_ok result then hex_of bytes.now else []) }
     ensures front { take (length text.old.items) text.new.items ≡ text.old.items }
 {
     let length = text.len();

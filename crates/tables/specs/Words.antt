@@ -39,7 +39,8 @@ pattern_digits = 8
 
 -- the 32 bits of a word: eight digits, the highest first
 abbrev pub pattern_at : List ℕ → Result ℕ WordFault
-pattern_at word = if length word == pattern_digits then pattern_of (bytes_of word) else Err NotPattern
+pattern_at word =
+    if length word == pattern_digits then pattern_of (bytes_of word) else Err NotPattern
 
 -- of four bytes, each if it is there
 abbrev pub pattern_joined : Option ℕ → Option ℕ → Option ℕ → Option ℕ → Option ℕ

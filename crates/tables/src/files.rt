@@ -1,8 +1,9 @@
 //! Answers to records, record files and questions for text bytes.
 
 ghost use Rattle.std.specs.Prelude.{◌≡◌, ℕ, Some, OnErr, is_ok};
-ghost use Rattle.rack.specs.Files.{file_answer};
-ghost use Rattle.tables.specs.Files.{checked_text, filled_text, byte_text, check_of, filled_by, held_after};
+ghost use Rattle.rack.specs.Meaning.{most_channels};
+ghost use Rattle.rack.specs.Files.{file_answer, kept_or_read};
+ghost use Rattle.tables.specs.Files.{checked_text, filled_text, byte_text, check_of, filled_by};
 
 use hexdigits::Hex;
 use rack::{FileFault, Rack, RackRefusal, blank_record};
@@ -48,7 +49,8 @@ impl Filled {
     /// Fills a rack by a file.
     pub fn by<R: Filling>(rack: &mut R, file: &[u8]) -> Filled
         ensures answer { result.0 ≡ filled_by R.most file.now }
-        ensures after { R.records rack.new ≡ held_after (is_ok result.0) file.now (R.records rack.old) }
+        ensures after { R.records rack.new ≡
+            kept_or_read (is_ok result.0) file.now (R.records rack.old) }
         ensures same { OnErr result.0 (rack.new ≡ rack.old) }
     {
         Filled(rack.fill(file).map(|()| rack.count()))
@@ -97,12 +99,13 @@ pub trait Filling: Rack {
     /// Holds the records of a file, all of them or none.
     fn fill(&mut self, file: &[u8]) -> Result<(), FileFault>
         ensures answer { result ≡ file_answer most file.now }
-        ensures after { Self.records self.new ≡ held_after (is_ok result) file.now (Self.records self.old) }
+        ensures after { Self.records self.new ≡
+            kept_or_read (is_ok result) file.now (Self.records self.old) }
         ensures same { OnErr result (self.new ≡ self.old) };
 }
 
 impl Filling for Shelf {
-    ghost most = { 15 };
+    ghost most = { most_channels };
 
     fn fill(&mut self, file: &[u8]) -> Result<(), FileFault> {
         Shelf::fill(self, file)
