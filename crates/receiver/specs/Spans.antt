@@ -12,7 +12,8 @@ longest_span = 264
 abbrev pub counted_preambles : ℕ
 counted_preambles = 2
 
--- how many bytes are kept: of a span that is longer than there is room for, as many as there is room
+-- how many bytes are kept: of a span that is longer than there is room for, as many as there is
+-- room
 abbrev pub kept_length : Option ℕ → ℕ
 kept_length len = unwrap_or len longest_span
 

@@ -6,7 +6,8 @@ use Rattle.line.specs.Marks.{marks_number}
 use Rattle.receiver.specs.Spans.{longest_span, counted_preambles, kept_length}
 use Rattle.receiver.specs.declared.state.Receiver.{Receiver}
 
--- Two preambles are as good as more, and of the bytes from the start on 264 are kept: a longer transmission is not whole.
+-- Two preambles are as good as more, and of the bytes from the start on 264 are kept: a longer
+-- transmission is not whole.
 pub record Summary : Type 0 where
   pub preambles : ℕ
   pub span : List ℕ

@@ -35,7 +35,8 @@ impl Receiver {
 
     /// One character more.
     pub fn push(&mut self, byte: u8, marks: Marks)
-        ensures after { held self.new ≡ pushed (held self.old) (character byte (marks_number marks)) }
+        ensures after { held self.new
+            ≡ pushed (held self.old) (character byte (marks_number marks)) }
         ensures holds { HoldsMore self.old self.new (character byte (marks_number marks)) }
     {
         self.keep(byte, marks);

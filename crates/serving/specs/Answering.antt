@@ -14,6 +14,7 @@ use Rattle.line.specs.Judgements.{Judgement, Writable}
 use Rattle.line.specs.Views.{judged}
 use Rattle.line.specs.Whole.{frame_of}
 use Rattle.serving.specs.Serving.{Answering, answering_by, answering_to, Serves}
+use Rattle.serving.specs.Standing.{fields_of}
 use Rattle.serving.specs.declared.answering.Meant.{Meant}
 use Rattle.serving.specs.declared.answers.Answer.{Answer}
 
@@ -34,7 +35,7 @@ view_of m = record {
 
 -- there is such a channel with these fields, and nothing that its judgement writes is refused
 pub record Ready (records : List Record) (m : Found) : Type 0 where
-  pub there : option_map (λ r. r.fields) (channel_of records m.channel) ≡ Some m.fields
+  pub there : fields_of records m.channel ≡ Some m.fields
   pub writable : Writable m.judgement m.fields
 
 -- what it does, by the record that the rack has of it
@@ -50,11 +51,13 @@ FrameOf received f = MatchOption received (Unit {0}) (λ x. frame_of x ≡ Some 
 abbrev pub Finds : Option ℕ → List Record → Option Reception → Option Found → Type 0
 Finds supply records received found =
     MatchOption found (answering_to supply records received ≡ None) (λ m.
-    Ready records m × FrameOf received m.frame × (answering_of records m ≡ answering_to supply records received))
+    Ready records m × FrameOf received m.frame
+    × (answering_of records m ≡ answering_to supply records received))
 
 -- what it does then, with the law of what it answers
-pub record Answered {X : Type 0} (records : X → List Record) (wrote : WriteRelation X) (f : Parts) (a : Answering)
-    (before after : X) (buffer buffer' : List ℕ) (result : Result (Option Answer) Refusal) : Type 0 where
+pub record Answered {X : Type 0} (records : X → List Record) (wrote : WriteRelation X)
+    (f : Parts) (a : Answering) (before after : X) (buffer buffer' : List ℕ)
+    (result : Result (Option Answer) Refusal) : Type 0 where
   pub serves : Serves records wrote (Ok (Some a)) before after buffer buffer' result
   pub law : AnswersBy f a.after.fields.preambles a.bytes
 
@@ -62,4 +65,5 @@ abbrev pub Answers : {X : Type 0} (records : X → List Record) (wrote : WriteRe
     → Found → X → X → List ℕ → List ℕ → Result (Option Answer) Refusal → Type 0
 Answers records wrote m before after buffer buffer' result =
     (r : Record) → channel_of (records before) m.channel ≡ Some r
-    → Answered records wrote m.frame (answering_by m.frame m.channel r m.judgement) before after buffer buffer' result
+    → Answered records wrote m.frame (answering_by m.frame m.channel r m.judgement)
+    before after buffer buffer' result

@@ -2,5 +2,5 @@ pub mod Reading
 pub mod Meant
 pub mod Serving
 pub mod Writing
-pub mod Answering
 pub mod Standing
+pub mod Answering

@@ -27,7 +27,8 @@ abbrev pub allotment_of : ℕ → List Record → ℕ → Allotment
 allotment_of supply records channel =
     record { supply = supply; others = others flow_channel records channel }
 
--- What a channel that is meant does: what it writes, its record after that, and the bytes of its answer.
+-- What a channel that is meant does: what it writes, its record after that, and the bytes of its
+-- answer.
 pub record Answering : Type 0 where
   pub channel : ℕ
   pub edits : List Edit
@@ -50,7 +51,8 @@ answering_at supply records x f channel =
     answering_by f channel r (judgement x f r.fields (allotment_of supply records channel)))
     (channel_of records channel)
 
--- Which channel answers, if there are a supply and a transmission that is not too long, and this is whole and means just one.
+-- Which channel answers, if there are a supply and a transmission that is not too long, and this is
+-- whole and means just one.
 abbrev pub answering_to : Option ℕ → List Record → Option Reception → Option Answering
 answering_to supply records received =
     option_and_then (λ s. option_and_then (λ x. option_and_then (λ f.
@@ -81,16 +83,19 @@ abbrev pub buffer_after : Option Answering → List ℕ → List ℕ
 buffer_after answering buffer = option_map_or (λ a. in_front a.bytes buffer) answering buffer
 
 abbrev pub records_after : Option Answering → List Record → List Record
-records_after answering records = option_map_or (λ a. slice_set records a.channel a.after) answering records
+records_after answering records =
+    option_map_or (λ a. slice_set records a.channel a.after) answering records
 
--- The rack went through exactly the writes of the channel that answers, and is the same value where none does.
+-- The rack went through exactly the writes of the channel that answers, and is the same value where
+-- none does.
 abbrev pub WritesOf : {X : Type 0} → WriteRelation X → Option Answering → X → X → Type 0
 WritesOf wrote answering before after =
     MatchOption answering (after ≡ before) (λ a. Writes wrote a.channel a.edits before after)
 
 -- What a gap does by which this is served: to the rack, to the lent buffer, and what it tells.
-pub record Serves {X : Type 0} (records : X → List Record) (wrote : WriteRelation X) (s : Result (Option Answering) ℕ)
-    (before after : X) (buffer buffer' : List ℕ) (result : Result (Option Answer) Refusal) : Type 0 where
+pub record Serves {X : Type 0} (records : X → List Record) (wrote : WriteRelation X)
+    (s : Result (Option Answering) ℕ) (before after : X) (buffer buffer' : List ℕ)
+    (result : Result (Option Answer) Refusal) : Type 0 where
   pub tells : told result ≡ to_be_told s
   pub front : buffer' ≡ buffer_after (answering_in s) buffer
   pub leaves : records after ≡ records_after (answering_in s) (records before)

@@ -1,13 +1,18 @@
 -- The record of a channel as a reply is told of it.
 use Rattle.std.specs.Prelude.{◌≡◌, ℕ, List, Some, None, Option, refl}
 use Rattle.std.specs.List.{AllByRecursion}
-use Rattle.std.specs.Option.{unwrap_or}
+use Rattle.std.specs.Option.{option_map, unwrap_or}
 use Rattle.std.proofs.Common.{lit<, lit≤}
 use Rattle.rack.specs.Blank.{blank_record}
 use Rattle.rack.specs.Meaning.{channel_of}
 use Rattle.rack.proofs.Meaning.{channel_lawful}
 use Rattle.record.specs.Lawful.{Lawful, LawfulFields}
+use Rattle.record.specs.declared.Fields.{Fields}
 use Rattle.record.specs.declared.Record.{Record}
+
+-- the fields of a channel, if there is one
+abbrev pub fields_of : List Record → ℕ → Option Fields
+fields_of records channel = option_map (λ r. r.fields) (channel_of records channel)
 
 -- a blank one stands for one that there is not
 abbrev pub record_of : List Record → ℕ → Record
@@ -25,9 +30,11 @@ blank_lawful = record {
   full_scale = refl;
 }
 
-pub standing_lawful : (records : List Record) (channel : ℕ) → AllByRecursion Lawful records → LawfulFields (record_of records channel).fields
+pub standing_lawful : (records : List Record) (channel : ℕ)
+    → AllByRecursion Lawful records → LawfulFields (record_of records channel).fields
 standing_lawful records channel lawful = go (channel_of records channel) refl
   where
-    go : (o : Option Record) → channel_of records channel ≡ o → LawfulFields (unwrap_or o blank_record).fields
+    go : (o : Option Record) → channel_of records channel ≡ o
+        → LawfulFields (unwrap_or o blank_record).fields
     go (Some r) e = (channel_lawful records channel r lawful e).fields
     go None e = blank_lawful

@@ -24,7 +24,8 @@ pub(crate) struct Meant<'a> {
 impl<'a> Meant<'a> {
     ghost use Rattle.serving.specs.Answering.{Answers, Ready, view_of};
 
-    /// Writes what the judgement changes, and nothing else; then answers from the judgement and from the channel as it is then.
+    /// Writes what the judgement changes, and nothing else; then answers from the judgement and from
+    /// the channel as it is then.
     pub(crate) fn answer<R: Rack>(
         self,
         rack: &mut R,
@@ -32,7 +33,8 @@ impl<'a> Meant<'a> {
     ) -> Result<Option<Answer>, Refusal>
         requires room { answer_room ≤ length out.old }
         requires ready { Ready (R.Rack.records rack.old) (view_of self) }
-        ensures { Answers R.Rack.records R.Rack.wrote (view_of self.entry) rack.old rack.new out.old out.new result }
+        ensures { Answers R.Rack.records R.Rack.wrote (view_of self.entry) rack.old rack.new
+            out.old out.new result }
     {
         let channel = self.channel;
         let fields = carry_out(rack, channel, self.fields, self.judgement);

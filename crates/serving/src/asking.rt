@@ -1,12 +1,11 @@
 //! A channel of a rack, as its judgement and its reply ask of it.
 
 ghost use Rattle.std.specs.Prelude.{◌≡◌, ◌≤◌, Some, length};
-ghost use Rattle.std.specs.Option.{option_map};
-ghost use Rattle.rack.specs.Meaning.{most_channels, channel_of};
+ghost use Rattle.rack.specs.Meaning.{most_channels};
 ghost use Rattle.runs.specs.Channel.{flow_channel};
 ghost use Rattle.runs.specs.Shares.{others};
 ghost use Rattle.serving.specs.Serving.{allotment_of};
-ghost use Rattle.serving.specs.Standing.{record_of, standing_lawful};
+ghost use Rattle.serving.specs.Standing.{fields_of, record_of, standing_lawful};
 
 use crate::reading::text_from;
 use line::{Allotting, LABELS_LENGTH, MESSAGE_LENGTH, ReplySource};
@@ -50,13 +49,14 @@ pub(crate) struct Standing<'a, R: Rack> {
     pub(crate) rack: &'a R,
     pub(crate) channel: u8,
     pub(crate) fields: Fields,
-    ghost there: { option_map (λ r. r.fields) (channel_of (R.Rack.records rack.now) channel) ≡ Some fields },
+    ghost there: { fields_of (R.Rack.records rack.now) channel ≡ Some fields },
 }
 
 impl<'a, R: Rack> ReplySource for Standing<'a, R> {
     ghost channel_record = { λ s. record_of (R.Rack.records s.rack.now) s.channel };
 
-    ghost lawful = { λ s. standing_lawful (R.Rack.records s.rack.now) s.channel (R.Rack.lawful s.rack.now) };
+    ghost lawful = { λ s.
+        standing_lawful (R.Rack.records s.rack.now) s.channel (R.Rack.lawful s.rack.now) };
 
     fn fields(&self) -> Fields {
         self.fields

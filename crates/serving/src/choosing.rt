@@ -13,7 +13,8 @@ use record::TAG;
 
 const TAG_LENGTH: usize = TAG.end - TAG.start;
 
-/// The one channel that a request's frame means; none where it means no channel or several, or the rack has too many.
+/// The one channel that a request's frame means; none where it means no channel or several, or the
+/// rack has too many.
 pub fn sole_meant<R: Rack>(rack: &R, frame: Frame<'_>) -> Option<u8>
     ensures value { result ≡ sole_meant (frame_parts frame.entry) (R.Rack.records rack.now) }
     ensures exact { ToldExactly (frame_parts frame.entry) (R.Rack.records rack.now) result }
@@ -30,9 +31,11 @@ pub fn sole_meant<R: Rack>(rack: &R, frame: Frame<'_>) -> Option<u8>
 
 // Whether a request means a channel; its tag is only asked for where the address means it.
 fn meant_at<R: Rack>(rack: &R, address: Address, request: Request<'_>, channel: u8) -> bool
-    ensures { result ≡ asked_at? (address_bytes address) (seen request.entry) (R.Rack.records rack.now) channel }
+    ensures { result
+        ≡ asked_at? (address_bytes address) (seen request.entry) (R.Rack.records rack.now) channel }
 {
-    // Not `is_ok_and`: of a closure that passes an address on, the proof does not learn what it answers.
+    // Not `is_ok_and`: of a closure that passes an address on, the proof does not learn what it
+    // answers.
     let Ok(fields) = rack.fields(channel) else {
         return false;
     };

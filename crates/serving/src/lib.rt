@@ -1,6 +1,8 @@
-//! The channels of a rack on the line: which one a transmission means, what it writes through the rack, and what it answers.
+//! The channels of a rack on the line: which one a transmission means, what it writes through the
+//! rack, and what it answers.
 //!
-//! Rack and channel stay two parameters, as in `Rack`: a struct of both would be needed twice, to read and to write.
+//! Rack and channel stay two parameters, as in `Rack`: a struct of both would be needed twice, to
+//! read and to write.
 #![tactic(auto)]
 
 mod answering;

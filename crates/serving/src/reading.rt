@@ -9,7 +9,8 @@ use rack::Rack;
 use record::Record;
 use std::array;
 
-/// The record of a channel, put together from the rack's answers; none where there is no such channel.
+/// The record of a channel, put together from the rack's answers; none where there is no such
+/// channel.
 pub fn record_of<R: Rack>(rack: &R, channel: u8) -> Option<Record>
     ensures { result ≡ channel_of (R.Rack.records rack.now) channel }
 {

@@ -13,18 +13,20 @@ use line::{ANSWER_ROOM, Received, judge};
 use rack::Rack;
 use refusals::Refusal;
 
-/// Serves a transmission at the channels of a rack, under a supply in mL/min: 102 where `out` has under 64 bytes, before anything
-/// is asked or written. The one channel that is meant writes through the rack what its command writes, and answers in the front
-/// of `out`. All are silent, and nothing is written, where none or several are meant, where there is no supply, as before a set-up,
-/// and where the transmission is longer than any whole one.
+/// Serves a transmission at the channels of a rack, under a supply in mL/min: 102 where `out` has
+/// under 64 bytes, before anything is asked or written. The one channel that is meant writes through
+/// the rack what its command writes, and answers in the front of `out`. All are silent, and nothing
+/// is written, where none or several are meant, where there is no supply, as before a set-up, and
+/// where the transmission is longer than any whole one.
 pub fn serve<R: Rack>(
     rack: &mut R,
     supply: Option<u32>,
     received: Option<Received<'_>>,
     out: &mut [u8],
 ) -> Result<Option<Answer>, Refusal>
-    ensures serves { let s = served supply (R.Rack.records rack.old) (option_map reception received.entry) out.old in
-        Serves R.Rack.records R.Rack.wrote s rack.old rack.new out.old out.new result }
+    ensures serves { let x = option_map reception received.entry in
+        Serves R.Rack.records R.Rack.wrote (served supply (R.Rack.records rack.old) x out.old)
+        rack.old rack.new out.old out.new result }
     ensures law { let x = option_map reception received.entry in
         Lawfully x (answering_in (served supply (R.Rack.records rack.old) x out.old)) }
 {
@@ -44,7 +46,8 @@ fn find<'a, R: Rack>(
     supply: Option<u32>,
     received: Option<Received<'a>>,
 ) -> Option<Meant<'a>>
-    ensures { Finds supply (R.Rack.records rack.now) (option_map reception received.entry) (option_map view_of result) }
+    ensures { let x = option_map reception received.entry in
+        Finds supply (R.Rack.records rack.now) x (option_map view_of result) }
 {
     let supply = supply?;
     let received = received?;
