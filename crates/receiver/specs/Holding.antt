@@ -1,7 +1,8 @@
 -- A receiver that holds a transmission.
-use Rattle.std.specs.Prelude.{◌≡◌, ℕ, ◌<◌, List, [], ◌∷◌, ◌++◌, map, replicate, if◌then◌else◌}
+use Rattle.std.specs.Prelude.{◌≡◌, ℕ, ◌<◌, List, [], ◌∷◌, ◌++◌, map, replicate, Option, if◌then◌else◌}
 use Rattle.std.specs.List.{AllByRecursion}
-use Rattle.line.specs.Characters.{Character, received}
+use Rattle.std.specs.Option.{MatchOption}
+use Rattle.line.specs.Characters.{Character, Reception, Keeps, received}
 use Rattle.receiver.specs.Summaries.{Summary, summary_of, held}
 use Rattle.receiver.specs.declared.state.Receiver.{Receiver}
 
@@ -37,3 +38,8 @@ pending_of s = replicate s.preambles (unmarked 0xff) ++ span_characters s.marks 
 -- Characters that a receiver holds: every value of the type holds some.
 abbrev pub pending : Receiver → List Character
 pending r = pending_of (held r)
+
+-- what is handed on keeps whatever characters the receiver holds
+abbrev pub KeepsAll : Receiver → Option Reception → Type 0
+KeepsAll r handed =
+    MatchOption handed (Unit {0}) (λ x. (t : List Character) → Holds r t → Keeps x t)

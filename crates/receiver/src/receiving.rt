@@ -4,7 +4,7 @@ ghost use Rattle.std.specs.Prelude.{◌≡◌, []};
 ghost use Rattle.std.specs.Option.{option_map};
 ghost use Rattle.line.specs.Marks.{marks_number};
 ghost use Rattle.line.specs.Views.{reception};
-ghost use Rattle.receiver.specs.Holding.{Holds, HoldsMore, character, pending};
+ghost use Rattle.receiver.specs.Holding.{Holds, HoldsMore, KeepsAll, character, pending};
 ghost use Rattle.receiver.specs.Summaries.{pushed, held, handed_on};
 
 use crate::state::{MAX_SPAN, Receiver};
@@ -63,6 +63,7 @@ impl Receiver {
     /// What was received, unless it is too long to be whole.
     pub fn received(&self) -> Option<Received<'_>>
         ensures value { option_map reception result ≡ handed_on (held self.now) }
+        ensures keeps { KeepsAll self.now (option_map reception result) }
         ensures holds { Holds self.now (pending self.now) }
     {
         Some(Received {
