@@ -13,7 +13,7 @@ use refusals::Refusal;
 // The number of records that is told for all above the most channels.
 const MANY: u8 = MAX_CHANNELS + 1;
 
-// Two racks side by side, whatever each is made of: the left one's channels first.
+/// Two racks side by side, whatever each is made of: the left one's channels first.
 #[derive(Drop)]
 pub struct SideBySide<L, R> {
     pub left: L,
@@ -34,7 +34,8 @@ impl<L: Rack, R: Rack> SideBySide<L, R> {
         ensures found { IfOk result
             (FoundAt (L.Rack.records self.now.left) (R.Rack.records self.now.right) channel) }
         ensures absent { OnErr result
-            (channel_of (L.Rack.records self.now.left ++ R.Rack.records self.now.right) channel ≡ None) }
+            (channel_of (L.Rack.records self.now.left ++ R.Rack.records self.now.right) channel
+                ≡ None) }
     {
         let left = self.left.count();
         if channel >= MAX_CHANNELS {
@@ -55,7 +56,8 @@ impl<L: Rack, R: Rack> Rack for SideBySide<L, R> {
         wrote_beside L.Rack.wrote R.Rack.wrote (routed (told (L.Rack.records old.left)) channel)
         old.left new.left old.right new.right edit answer };
 
-    ghost lawful = { λ s. All-append Lawful (L.Rack.records s.left) (R.Rack.records s.right) (L.Rack.lawful s.left) (R.Rack.lawful s.right) };
+    ghost lawful = { λ s. All-append Lawful (L.Rack.records s.left) (R.Rack.records s.right)
+        (L.Rack.lawful s.left) (R.Rack.lawful s.right) };
 
     fn count(&self) -> u8 {
         (self.left.count() + self.right.count()).min(MANY)

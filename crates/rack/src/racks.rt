@@ -41,9 +41,12 @@ pub trait Rack {
 
     // Writes one field of one channel, or refuses and leaves the rack as it was.
     fn write(&mut self, channel: u8, change: Change<'_>) -> Result<(), RackRefusal>
-        ensures answer { numbered result ≡ answer_at (records self.old) channel (edit_of change.entry) }
-        ensures after { records self.new ≡ after_at (records self.old) channel (edit_of change.entry) }
-        ensures puts { OnOk result (PutsAt channel (edit_of change.entry) (records self.old) (records self.new)) }
+        ensures answer { numbered result ≡
+            answer_at (records self.old) channel (edit_of change.entry) }
+        ensures after { records self.new ≡
+            after_at (records self.old) channel (edit_of change.entry) }
+        ensures puts { OnOk result
+            (PutsAt channel (edit_of change.entry) (records self.old) (records self.new)) }
         ensures once { wrote self.old self.new channel (edit_of change.entry) (numbered result) }
         ensures same { is_ok result ≡ false → self.new ≡ self.old };
 

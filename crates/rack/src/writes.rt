@@ -16,11 +16,13 @@ const MAX_TEXT_RUN: usize = 24;
 
 const MINUS_ZERO: u32 = 0x8000_0000;
 
-/// Writes one field of a record, or refuses and leaves it as it was. That a lawful record stays lawful is a clause and not a type:
-/// a record that is not lawful can be written too.
+/// Writes one field of a record, or refuses and leaves it as it was.
+///
+/// That a lawful record stays lawful is a clause and not a type: a record that is not lawful can be written too.
 pub fn apply(record: &mut Record, change: Change<'_>) -> Result<(), RackRefusal>
     ensures answer { numbered result ≡ answer_of (written (edit_of change.entry) «record».old) }
-    ensures after { «record».new ≡ record_after (written (edit_of change.entry) «record».old) «record».old }
+    ensures after { «record».new ≡
+        record_after (written (edit_of change.entry) «record».old) «record».old }
     ensures puts { OnOk result (Puts (edit_of change.entry) «record».old «record».new) }
     ensures lawful { Lawful «record».old → Lawful «record».new }
 {
@@ -73,8 +75,10 @@ fn stored(pattern: u32) -> u32
 
 // Writes a run of text bytes from a place on.
 fn put_text(text: &mut [u8; TEXT_LENGTH], place: usize, bytes: &[u8]) -> Result<(), RackRefusal>
-    ensures answer { numbered result ≡ (if text_run? place bytes.now then Ok tt else Err out_of_form) }
-    ensures after { text.new ≡ (if text_run? place bytes.now then placed place bytes.now text.old else text.old) }
+    ensures answer { numbered result ≡
+        (if text_run? place bytes.now then Ok tt else Err out_of_form) }
+    ensures after { text.new ≡
+        (if text_run? place bytes.now then placed place bytes.now text.old else text.old) }
 {
     if bytes.len() > MAX_TEXT_RUN || place > TEXT_LENGTH - bytes.len() {
         return Err(Refusal::OutOfForm.into());

@@ -15,7 +15,8 @@ const OPENED_ADDRESS: u8 = 7;
 
 /// Opens a channel's key, gives the channel its polling address, and tells its fields.
 pub fn open_key<R: Rack>(rack: &mut R, channel: u8) -> Result<Fields, RackRefusal>
-    ensures answer { numbered result ≡ asked (λ c. c.fields) (opened (R.Rack.records rack.old) channel) channel }
+    ensures answer { numbered result ≡
+        asked (λ c. c.fields) (opened (R.Rack.records rack.old) channel) channel }
     ensures after { R.Rack.records rack.new ≡ opened (R.Rack.records rack.old) channel }
     ensures writes { OnOk result (Writes R.Rack.wrote channel opening rack.old rack.new) }
 {

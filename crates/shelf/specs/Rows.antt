@@ -1,7 +1,9 @@
 -- The records of a shelf, each in a row of 80 bytes.
 use Rattle.std.specs.Prelude.{◌≡◌, ℕ, List, None, Ok, Err, Result, map, slice_set}
+use Rattle.std.specs.List.{AllByRecursion}
 use Rattle.record.specs.declared.Record.{Record}
 use Rattle.record.specs.Faults.{fault_of}
+use Rattle.record.specs.Lawful.{Lawful}
 use Rattle.record.specs.Layout.{decoded, encoded}
 use Rattle.rack.specs.Edits.{Edit}
 use Rattle.rack.specs.Meaning.{answer_at, written_at}
@@ -12,6 +14,13 @@ Faultless row = fault_of row ≡ None
 
 abbrev pub records_in : List (List ℕ) → List Record
 records_in = map decoded
+
+-- the rows of lawful records, each as its record is encoded
+abbrev pub AllLawful : List (List ℕ) → Type 0
+AllLawful rows = AllByRecursion Lawful (records_in rows)
+
+abbrev pub AllFaultless : List (List ℕ) → Type 0
+AllFaultless rows = AllByRecursion Faultless rows
 
 -- the rows after a write: the bytes of that channel's record are replaced, and no other row
 abbrev pub rows_after : Result Record ℕ → List (List ℕ) → ℕ → List (List ℕ)

@@ -16,7 +16,8 @@ use refusals::Refusal;
 impl Shelf {
     // The row of a channel.
     fn row(&self, channel: u8) -> Result<&[u8; RECORD_LENGTH], Refusal>
-        ensures value { option_map (λ row. decoded row.now) (result_ok result) ≡ channel_of (records_in self.now.rows.items) channel }
+        ensures value { option_map (λ row. decoded row.now) (result_ok result) ≡
+            channel_of (records_in self.now.rows.items) channel }
         ensures within { OnOk result (channel < array_vec_len self.now.rows) }
         ensures refusal { IfErr result (λ e. e ≡ NoChannel) }
     {

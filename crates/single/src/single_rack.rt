@@ -26,7 +26,8 @@ impl Single {
     /// Takes the record of a file of just one, or refuses and stays as it was.
     pub fn fill(&mut self, file: &[u8]) -> Result<(), FileFault>
         ensures answer { result ≡ file_answer 1 file.now }
-        ensures after { self.new.«record» ∷ [] ≡ kept_or_read (is_ok result) file.now (self.old.«record» ∷ []) }
+        ensures after { self.new.«record» ∷ [] ≡
+            kept_or_read (is_ok result) file.now (self.old.«record» ∷ []) }
         ensures explains { IfErr result (Explains 1 file.now) }
         ensures taken { OnOk result (Taken 1 file.now) }
         ensures same { is_ok result ≡ false → self.new ≡ self.old }
@@ -39,7 +40,8 @@ impl Single {
 
     // The record of a channel.
     fn at(&self, channel: u8) -> Result<&Record, Refusal>
-        ensures value { option_map (λ r. r.now) (result_ok result) ≡ channel_of (self.now.«record» ∷ []) channel }
+        ensures value { option_map (λ r. r.now) (result_ok result) ≡
+            channel_of (self.now.«record» ∷ []) channel }
         ensures lawful { IfOk result (λ r. Lawful r.now) }
         ensures refusal { IfErr result (λ e. e ≡ NoChannel) }
     {

@@ -1,5 +1,6 @@
-use Rattle.std.proofs.Common.{◌≡◌, ◌≢◌, ℕ, ap, ◌∙◌, refl, arith, rules}
+use Rattle.std.proofs.Common.{◌≡◌, ◌≢◌, ℕ, Ok, Err, Result, OnOk, ap, ◌∙◌, refl, arith, rules}
 use Rattle.rack.specs.Edits.{edit_of, setpoint}
+use Rattle.rack.specs.declared.refusal.RackRefusal.{RackRefusal}
 use Rattle.rack.specs.declared.changes.Change.{Change}
 use Rattle.rack.specs.declared.changes.Change.TheVariants.{PollingAddress, Preambles, AssemblyNumber, Changed, Key, Sample, Text, Setpoint}
 use Rattle.rack.proofs.Puts.{puts_at}
@@ -8,6 +9,11 @@ use Rattle.combined.specs.Ceilings.{lowered_all}
 use Rattle.combined.proofs.Ceilings.{Passed, passed_plain, passed_setpoint, under_is}
 use Rattle.combined.proofs.ceiling.CeilingRack.write.Goals as goal
 use Rattle.combined.proofs.ceiling.CeilingRack.write.Goals.{in-Setpoint+in_ok-fields+in_ok-admitted, in_default}
+
+-- what holds anyway
+on_ok : {P : Type 0} (r : Result (Unit {0}) RackRefusal) → P → OnOk r P
+on_ok (Ok x) p = p
+on_ok (Err e) p = tt
 
 -- what is no write of a setpoint
 plain : (change : Change) → ((x : ℕ) → change ≢ Setpoint x) → (x : ℕ) → edit_of change ≢ setpoint x
@@ -37,6 +43,7 @@ returns g c =
       answer = answer;
       below = answer ∙ under_is percent records c.args.channel edit;
       after = after;
+      held = on_ok c.write.result c.write.ensures.after;
       puts = puts_at (lowered_all percent records) _ c.args.channel edit (all_lowered percent records (g.met.R.Rack.lawful c.args.self.now.below)) c.write.result answer after;
       once = (refl, rw p.through c.write.ensures.once);
       same = search rules;
