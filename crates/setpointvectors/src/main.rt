@@ -1,9 +1,9 @@
-// Works through a table of calls on setpoints, one a line, and prints what each answers:
-//
-//     load PATTERN              admitted PATTERN CEILING       lawful PATTERN
-//     units PATTERN FULLSCALE   share LOAD FULLSCALE
-//
-// Patterns are capital hexadecimal.
+//! Works through a table of calls on setpoints, one a line, and prints what each answers:
+//!
+//!     load PATTERN              admitted PATTERN CEILING       lawful PATTERN
+//!     units PATTERN FULLSCALE   share LOAD FULLSCALE
+//!
+//! Patterns are capital hexadecimal.
 #![tactic(auto)]
 
 use anyhow::anyhow;

@@ -1,11 +1,11 @@
-// Works through a table of codec calls, one a line, and prints what each answers, with the lent buffer as the call left it:
-//
-//     pack TEXT LENGTH
-//     unpack PACKED LENGTH
-//     make PREAMBLES ADDRESS COMMAND DATA LENGTH
-//     read BYTES
-//
-// Bytes are capital hexadecimal, or '-' where there are none; LENGTH is that of the lent buffer, whose bytes are A5 before.
+//! Works through a table of codec calls, one a line, and prints what each answers, with the lent buffer as the call left it:
+//!
+//!     pack TEXT LENGTH
+//!     unpack PACKED LENGTH
+//!     make PREAMBLES ADDRESS COMMAND DATA LENGTH
+//!     read BYTES
+//!
+//! Bytes are capital hexadecimal, or '-' where there are none; LENGTH is that of the lent buffer, whose bytes are A5 before.
 #![tactic(auto)]
 
 use anyhow::anyhow;
