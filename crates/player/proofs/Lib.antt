@@ -1,3 +1,3 @@
-mod Bytes
 mod Printing
 mod Pauses
+mod Sections

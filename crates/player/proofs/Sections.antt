@@ -4,6 +4,7 @@ use Rattle.std.proofs.lemmas.Bool.{leb-true, ltb-false}
 use Rattle.header.specs.Shares.{capacity_of, total_share, fits?}
 use Rattle.line.specs.Characters.{Character}
 use Rattle.rack.specs.Files.{file_answer, file_records}
+use Rattle.rack.specs.Meaning.{most_channels}
 use Rattle.rack.specs.declared.files.FileFault.{FileFault}
 use Rattle.record.specs.declared.Record.{Record}
 use Rattle.recording.specs.Events.{Asked, calls, pauses, event_asks}
@@ -20,7 +21,7 @@ use Rattle.runs.specs.Traces.{Trace, ◌▸◌}
 use Rattle.setup.proofs.SetUps.{distinct}
 use Rattle.setup.specs.SetUps.{any_same_identity?, set_up_refusal}
 use Rattle.player.specs.Outputs.{State, set_up_state, set_up_played, lines_of, lines_after}
-use Rattle.player.specs.Playing.{most_channels, first_fault, play_fault, output_for}
+use Rattle.player.specs.Playing.{first_fault, play_fault, output_for}
 use Rattle.player.specs.Sections.{Since, Lines, end, call, look, out_of_form, set_up, not_set_up, Printed, refused, played, AllPrintedSo}
 
 -- a refusal that is none

@@ -31,36 +31,44 @@ pub record Since (supply : ℕ) (before : List Record) (trace : Trace flow_chann
 pub data Lines (f : Format) : ℕ → List Record → Trace flow_channel → List (List ℕ) → List ℕ → Type 0 where
   end : {supply : ℕ} {before records : List Record} {trace : Trace flow_channel}
       → Since supply before trace records → Lines f supply before trace [] []
-  call : {supply : ℕ} {before : List Record} {trace : Trace flow_channel} {event : List ℕ} {events : List (List ℕ)} {lines : List ℕ}
+  call : {supply : ℕ} {before : List Record} {trace : Trace flow_channel}
+      {event : List ℕ} {events : List (List ℕ)} {lines : List ℕ}
       → (c : Call flow_channel) (x : Result flow_channel) → event_asks f event ≡ Ok (calls c)
       → Lines f supply before (trace ++ ((c ▸ x) ∷ [])) events lines
       → Lines f supply before trace (event ∷ events) (line_of x ++ lines)
-  look : {supply : ℕ} {before records : List Record} {trace : Trace flow_channel} {event : List ℕ} {events : List (List ℕ)} {lines : List ℕ}
+  look : {supply : ℕ} {before records : List Record} {trace : Trace flow_channel}
+      {event : List ℕ} {events : List (List ℕ)} {lines : List ℕ}
       → (place : ℕ) → event_asks f event ≡ Ok (pauses (Look place)) → Since supply before trace records
       → Lines f supply before trace events lines
       → Lines f supply before trace (event ∷ events) (look_line (slice_get records place) ++ lines)
-  out_of_form : {supply : ℕ} {before : List Record} {trace : Trace flow_channel} {event : List ℕ} {events : List (List ℕ)} {lines : List ℕ}
+  out_of_form : {supply : ℕ} {before : List Record} {trace : Trace flow_channel}
+      {event : List ℕ} {events : List (List ℕ)} {lines : List ℕ}
       → (number : ℕ) → event_asks f event ≡ Err number
       → Lines f supply before trace events lines
       → Lines f supply before trace (event ∷ events) (refusal_line number ++ lines)
-  set_up : {supply : ℕ} {before records : List Record} {trace : Trace flow_channel} {event : List ℕ} {events : List (List ℕ)} {lines : List ℕ}
-      → (next : ℕ) → event_asks f event ≡ Ok (pauses (SetUp next)) → Since supply before trace records → runs.SetUp next records
+  set_up : {supply : ℕ} {before records : List Record} {trace : Trace flow_channel}
+      {event : List ℕ} {events : List (List ℕ)} {lines : List ℕ}
+      → (next : ℕ) → event_asks f event ≡ Ok (pauses (SetUp next)) → Since supply before trace records
+      → runs.SetUp next records
       → Lines f next records [] events lines
       → Lines f supply before trace (event ∷ events) (set_up_line ++ lines)
-  not_set_up : {supply : ℕ} {before records : List Record} {trace : Trace flow_channel} {event : List ℕ} {events : List (List ℕ)} {lines : List ℕ}
+  not_set_up : {supply : ℕ} {before records : List Record} {trace : Trace flow_channel}
+      {event : List ℕ} {events : List (List ℕ)} {lines : List ℕ}
       → (next number : ℕ) → event_asks f event ≡ Ok (pauses (SetUp next)) → Since supply before trace records
       → set_up_refusal next records ≡ Some number
       → Lines f supply before trace events lines
       → Lines f supply before trace (event ∷ events) (refusal_line number ++ lines)
 
--- WHAT IS PRINTED, of a supply, a record file and a recording: one line where the file or the set-up is refused; else the lines of the
--- events since the set-up, and that of the rest.
+-- WHAT IS PRINTED, of a supply, a record file and a recording: one line where the file or the set-up is refused; else the lines of
+-- the events since the set-up, and that of the rest.
 pub data Printed (f : Format) (supply : ℕ) (file input : List ℕ) : List ℕ → Type 0 where
-  refused : (fault : FileFault ⊎ ℕ) → play_fault supply file ≡ Some fault → Printed f supply file input (fault_line fault)
+  refused : (fault : FileFault ⊎ ℕ) → play_fault supply file ≡ Some fault
+      → Printed f supply file input (fault_line fault)
   played : {lines : List ℕ} → play_fault supply file ≡ None
       → Lines f supply (file_records file) [] (events_of input) lines
       → Printed f supply file input (lines ++ rest_line (rest_of input))
 
 -- every output is printed so
 abbrev pub AllPrintedSo : Format → ℕ → List ℕ → Type 0
-AllPrintedSo f supply file = (input : List ℕ) → Printed f supply file input (output_of f supply file input)
+AllPrintedSo f supply file = (input : List ℕ)
+    → Printed f supply file input (output_of f supply file input)

@@ -42,7 +42,8 @@ fn next_asked<R: Read + Drop, W: Write + Drop>(
     stream: &mut EventStream<R, W>,
     format: Format,
 ) -> Result<Option<Event>, Interruption>
-    ensures { Asks R.Read.remaining W.Write.contents stream.old stream.new format result }
+    ensures { Asks R.Read.remaining W.Write.contents (view_of stream.old) (view_of stream.new)
+        format result }
 {
     for _ in 0..u64::MAX {
         let Some(event) = stream.next_event()? else {
@@ -59,7 +60,7 @@ fn next_asked<R: Read + Drop, W: Write + Drop>(
 impl<R: Read + Drop, W: Write + Drop> Driver for Player<R, W> {
     ghost names = { Names R.Read.remaining W.Write.contents };
 
-    ghost hears = { Hears };
+    ghost hears = { λ p p' e. Hears p p' e };
 
     ghost ends = { Ends R.Read.remaining W.Write.contents };
 

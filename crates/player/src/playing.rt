@@ -1,15 +1,15 @@
-ghost use Rattle.std.specs.Prelude.{◌≡◌, ℕ, false, List, ◌++◌, length, Some, is_ok, IfOk, MatchResult};
+ghost use Rattle.std.specs.Prelude.{◌≡◌, ℕ, false, List, length, Some, is_ok, IfOk, MatchResult};
 ghost use Rattle.std.specs.Option.{option_map};
 ghost use Rattle.std.specs.Result.{result_err};
-ghost use Rattle.rack.specs.Files.{file_answer, file_records};
-ghost use Rattle.setup.specs.SetUps.{set_up_refusal};
+ghost use Rattle.rack.specs.Files.{file_records};
 ghost use Rattle.recording.specs.Recordings.{events_of};
-ghost use Rattle.player.specs.Interruptions.{CanInterrupt};
-ghost use Rattle.player.specs.Playing.{play_refusal, fault_seen, play_fault, Played, output_of};
+ghost use Rattle.stream.specs.Interruptions.{CanInterrupt};
+ghost use Rattle.player.specs.Playing.{play_refusal, fault_seen, play_fault, Played, output_behind};
+ghost use Rattle.player.specs.Sections.{AllPrintedSo};
 ghost use Rattle.player.specs.declared.playing.PlayFault.TheVariants.{File, SetUp};
 
 use crate::driving::Player;
-use crate::stream::Interruption;
+use crate::progress::Progress;
 use panel::{Driver, Panel, work, work_on};
 use rack::FileFault;
 use recording::Format;
@@ -17,21 +17,22 @@ use refusals::Refusal;
 use shelf::Shelf;
 use std::alloc::Global;
 use std::io::{Read, Write};
+use stream::Interruption;
 
 // The most room that an event asks for.
 const MAX_ROOM: usize = 255;
 
-// Why a recording is not played.
+/// Why a recording is not played.
 #[derive(Clone, Copy, PartialEq, Debug)]
 pub enum PlayFault {
-    // The record file, with the first record's fault whole.
+    /// The record file, with the first record's fault whole.
     File(FileFault),
-    // The set-up.
+    /// The set-up.
     SetUp(Refusal),
 }
 
 impl PlayFault {
-    // A method and no `From`: a fault says more than its refusal.
+    /// How it is told. A method and no `From`: a fault says more than its refusal.
     pub fn refusal(self) -> Refusal
         ensures { result ≡ play_refusal self }
     {
@@ -58,16 +59,18 @@ impl From<Refusal> for PlayFault {
     }
 }
 
-// Plays a recording: a driver works a panel over the shelf of a record file, under a supply in mL/min, until it ends the run. The
-// panel goes on from there.
+/// Plays a recording: a driver works a panel over the shelf of a record file, under a supply in mL/min, until it ends the run. The
+/// panel goes on from there.
 pub fn play<D: Driver>(
     file: &[u8],
     supply: u32,
     driver: &mut D,
     buffer: &mut [u8],
 ) -> Result<Panel<Shelf>, PlayFault>
-    ensures fault { option_map fault_seen (result_err result) ≡ play_fault (file_answer 15 file.now) (set_up_refusal supply (file_records file.now)) }
-    ensures played { IfOk result (Played D.Driver.names D.Driver.hears D.Driver.ends driver.old driver.new buffer.old buffer.new supply (file_records file.now)) }
+    ensures fault { option_map fault_seen (result_err result) ≡ play_fault supply file.now }
+    ensures played { IfOk result
+        (Played D.Driver driver.old driver.new buffer.old buffer.new
+        supply (file_records file.now)) }
     ensures unasked { is_ok result ≡ false → driver.new ≡ driver.old }
     ensures unwritten { is_ok result ≡ false → buffer.new ≡ buffer.old }
 {
@@ -78,9 +81,9 @@ pub fn play<D: Driver>(
     Ok(panel)
 }
 
-// Plays a recording whole, and gives the writer back: it prints the lines of the events, or the one line of a refused record file
-// or set-up. However the reader cuts the recording into blocks, the lines are those of the whole. It is never told as endless if it
-// has fewer than 2^64 - 1 events.
+/// Plays a recording whole, and gives the writer back: it prints the lines of the events, or the one line of a refused record file
+/// or set-up. However the reader cuts the recording into blocks, the lines are those of the whole. It is never told as endless if it
+/// has fewer than 2^64 - 1 events.
 pub fn run<R: Read + Drop, W: Write + Drop>(
     heap: Global,
     format: Format,
@@ -89,7 +92,11 @@ pub fn run<R: Read + Drop, W: Write + Drop>(
     input: R,
     output: W,
 ) -> Result<W, Interruption>
-    ensures { (bytes out : List ℕ) → R.Read.remaining input ≡ Some bytes → W.Write.contents output ≡ Some out → MatchResult result (λ w. W.Write.contents w ≡ Some (out ++ output_of format supply file.now bytes)) (CanInterrupt (length (events_of bytes))) }
+    ensures printed { (bytes out : List ℕ) → R.Read.remaining input ≡ Some bytes
+        → W.Write.contents output ≡ Some out → MatchResult result
+        (λ w. W.Write.contents w ≡ output_behind out format supply file.now bytes)
+        (CanInterrupt (length (events_of bytes))) }
+    ensures promised { AllPrintedSo format supply file.now }
 {
     let mut player = Player::new(heap, format, input, output);
     let mut buffer = [0; MAX_ROOM];
@@ -98,10 +105,13 @@ pub fn run<R: Read + Drop, W: Write + Drop>(
         Err(fault) => return player.refuse(fault.refusal()),
     };
     for _ in 0..u64::MAX {
-        let Some(pause) = player.take_pause()? else {
-            return player.finish();
-        };
-        player.attend(&mut panel, pause)?;
+        match player.progress {
+            Progress::Waiting(pause) => player.attend(&mut panel, pause)?,
+            Progress::Ended => return player.finish(),
+            Progress::Interrupted(interruption) => return Err(interruption),
+            // As many calls were made as can be counted.
+            Progress::Going => return Err(Interruption::Endless),
+        }
         work_on(&mut panel, &mut player, &mut buffer);
     }
     Err(Interruption::Endless)

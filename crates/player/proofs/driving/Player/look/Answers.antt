@@ -1,28 +1,26 @@
-use Rattle.std.proofs.Common.{◌≡◌, ◌++◌, ◌∷◌, [], List, ℕ, replicate, refl, ap, ◌∙◌, subst, slice_get}
+use Rattle.std.proofs.Common.{◌≡◌, ◌++◌, ◌∷◌, [], List, ℕ, true, replicate, refl, ap, ◌∙◌, slice_get}
 use Rattle.hexdigits.specs.Hex.{hex_of}
-use Rattle.recording.specs.Lines.{refusal_line}
-use Rattle.refusals.specs.Refusals.{number_of}
-use Rattle.player.specs.Outputs.{Played, lines_of}
-use Rattle.player.specs.Players.{Prints}
-use Rattle.player.proofs.Pauses.{channels_are, looked, look_refused}
-use Rattle.player.proofs.Printing.{told}
+use Rattle.stream.specs.Streams.{view_of, told}
+use Rattle.player.specs.Outputs.{look_line, lines_of}
+use Rattle.player.proofs.Pauses.{channels_are, stands_lawful, looked, look_refused}
+use Rattle.player.proofs.Printing.{line_printed}
 use Rattle.player.proofs.driving.Player.look.Goals as goal
 
 pub returns-in_ok-print-in-Ok-clause-looked : goal.returns-in_ok-print-in-Ok-clause-looked
-returns-in_ok-print-in-Ok-clause-looked g c = λ s taken most total stands p.
-    let k = channels_are c.args.panel.now s stands in
+returns-in_ok-print-in-Ok-clause-looked g c = λ s taken most total w.
+    let k = channels_are c.args.panel.now s w.0 in
     let answer = rw k at c.in-Ok.ensures.answer in
     let buffer = rw k at c.in-Ok.ensures.buffer in
-    let line = hex_of c.look.new.out ++ 10 ∷ [] in
-    let played = looked s (slice_get s.records c.args.channel) (replicate 80 0) c.look.new.out refl answer buffer in
-    let is : c.as_slice.result.now ≡ line = c.as_slice.ensures.value ∙ (c.in_ok-extend_from_slice-in-Ok.ensures.items ∙ ap (λ (l : List ℕ). l ++ 10 ∷ []) (c.in_ok-push_hex-in-Ok.ensures.text ∙ ap (λ (l : List ℕ). l ++ hex_of c.look.new.out) c.new-line.ensures.items)) in
-    told g.R.Read.remaining g.W.Write.contents line (lines_of c.args.self.now.format s) taken most total (λ events rest out streams. rw (← is) (c.in_ok-print-in-Ok.ensures events rest out streams))
-    (subst (λ (q : Played). Prints g.R.Read.remaining g.W.Write.contents c.args.self.now.stream (λ events. q.line ++ lines_of c.args.self.now.format q.after events) taken most total) played p)
+    let found = slice_get s.records c.args.channel in
+    let is : c.as_slice.result.now ≡ look_line found = c.as_slice.ensures.value ∙ (c.in_ok-extend_from_slice-in-Ok.ensures.items ∙ ap (λ (l : List ℕ). l ++ 10 ∷ []) (c.in_ok-push_hex-in-Ok.ensures.text ∙ ap (λ (l : List ℕ). l ++ hex_of c.look.new.out) c.new-line.ensures.items)) ∙ looked s.records c.args.channel (replicate 80 0) c.look.new.out refl (stands_lawful c.args.panel.now s w.0 c.args.panel.now.rack.lawful) answer buffer in
+    let before = view_of c.args.self.now.stream in
+    line_printed g.R.Read.remaining g.W.Write.contents before (view_of c.print.new.self) true (look_line found) (lines_of c.args.self.now.format s) taken most total (c.in_ok-print-in-Ok.ensures ∙ ap (λ l. told true l before) is) refl w.1
 
 pub returns-in_ok-tell-in-Err-clause-looked : goal.returns-in_ok-tell-in-Err-clause-looked
-returns-in_ok-tell-in-Err-clause-looked g c = λ s taken most total stands p.
-    let k = channels_are c.args.panel.now s stands in
+returns-in_ok-tell-in-Err-clause-looked g c = λ s taken most total w.
+    let k = channels_are c.args.panel.now s w.0 in
     let answer = rw k at c.in-Err.ensures.answer in
-    let played = look_refused s (slice_get s.records c.args.channel) (replicate 80 0) (number_of c.in-Err.refusal) refl answer in
-    told g.R.Read.remaining g.W.Write.contents (refusal_line (number_of c.in-Err.refusal)) (lines_of c.args.self.now.format s) taken most total c.in_ok-tell-in-Err.ensures
-    (subst (λ (q : Played). Prints g.R.Read.remaining g.W.Write.contents c.args.self.now.stream (λ events. q.line ++ lines_of c.args.self.now.format q.after events) taken most total) played p)
+    let found = slice_get s.records c.args.channel in
+    let before = view_of c.args.self.now.stream in
+    line_printed g.R.Read.remaining g.W.Write.contents before (view_of c.tell.new.self) true (look_line found) (lines_of c.args.self.now.format s) taken most total
+    (c.in_ok-tell-in-Err.ensures.told ∙ ap (λ l. told true l before) (look_refused found (replicate 80 0) _ refl answer)) refl w.1
