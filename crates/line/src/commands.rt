@@ -1,6 +1,6 @@
 //! The commands that a channel knows.
 
-ghost use Rattle.std.specs.Prelude.{◌≡◌};
+ghost use Rattle.std.specs.Prelude.{◌≡◌, Some, codes};
 ghost use Rattle.std.specs.Result.{result_ok};
 ghost use Rattle.line.specs.Commands.{number_of, count_of, writes?, counted?, command_of};
 
@@ -103,6 +103,8 @@ impl TryFrom<u8> for Command {
 }
 
 impl fmt::Display for UnknownCommand {
+    ghost output = { λ _. Some (codes "unknown command") };
+
     fn fmt<W: fmt::Write>(&self, f: &mut fmt::Formatter<W>) -> fmt::Result {
         f.write_str("unknown command")
     }

@@ -1,16 +1,22 @@
-// Works through a table of requests and transmissions, one a line, and prints what each is answered:
-//
-//     request COMMAND DATA     respond RECORD SUPPLY OTHERS BYTES MARKS LENGTH
-//
-// The first asks which request a command with its data is. The second lets the channel with this record answer the
-// characters with these bytes and marks, into a buffer of LENGTH bytes A5, under a header with this supply and this sum
-// of the other channels' shares. Bytes are capital hexadecimal, '-' where there are none.
+//! Works through a table of requests and transmissions, one a line, and prints what each is answered:
+//!
+//!     request COMMAND DATA     respond RECORD SUPPLY OTHERS BYTES MARKS LENGTH
+//!
+//! The first asks which request a command with its data is. The second lets the channel with this record, alone in a rack, answer
+//! the characters with these bytes and marks, into a buffer of LENGTH bytes A5, under a header with this supply and this sum of
+//! the other channels' shares. Bytes are capital hexadecimal, '-' where there are none.
 #![tactic(auto)]
 
+mod channels;
+mod told;
+
 use anyhow::anyhow;
-use line::{Header, Received, Request};
-use record::{RECORD_LENGTH, Record};
+use channels::Channel;
+use line::{ANSWER_ROOM, Given, Marks, Request};
+use receiver::Receiver;
+use record::RECORD_LENGTH;
 use refusals::Refusal;
+use single::Single;
 use std::alloc::Global;
 use tables::{UNTOUCHED, from_bytes, to_bytes};
 
@@ -41,9 +47,11 @@ fn show_request(rt: &HostRuntime, command: &str, data: &str) -> anyhow::Result<(
     let data = to_bytes(rt.alloc(), data)?;
     match Request::of(command, data.as_slice()) {
         Request::TagQuestion(tag) => show_tag(rt, tag),
-        Request::TextWrite { command, text } => show_write(rt, "text", command, text),
-        Request::NumberWrite { command, number } => show_write(rt, "number", command, number),
-        Request::Bare(command) => Ok(println!(rt; "bare {command}")?),
+        Request::TextWrite { command, text } => show_write(rt, "text", command.number(), text),
+        Request::NumberWrite { command, number } => {
+            show_write(rt, "number", command.number(), number)
+        }
+        Request::Bare(number) => Ok(println!(rt; "bare {number}")?),
     }
 }
 
@@ -63,77 +71,40 @@ fn respond(rt: &HostRuntime, words: &[&str]) -> anyhow::Result<()> {
     let [row, supply, others, bytes, marks, length] = words else {
         return Err(anyhow!("a call of another form"));
     };
-    let before = channel(rt.alloc(), row)?;
-    let header = header_of(supply, others)?;
-    let bytes = to_bytes(rt.alloc(), bytes)?;
-    let marks = to_bytes(rt.alloc(), marks)?;
-    let received = Received::of(bytes.as_slice(), marks.as_slice());
+    let row = to_bytes(rt.alloc(), row)?;
+    let row = <[u8; RECORD_LENGTH]>::try_from(row.as_slice())?;
+    let given = given(supply, others)?;
+    let receiver = heard(rt.alloc(), bytes, marks)?;
     let mut out = vec![in rt.alloc(); UNTOUCHED; length.parse()?]?;
-    let mut after = before;
-    let answer = line::respond(received, &mut after, header, out.as_mut_slice());
-    let outcome = Outcome {
-        answer,
-        before,
-        after,
-        out: out.as_slice(),
-    };
-    outcome.tell(rt)
+    if out.as_slice().len() < ANSWER_ROOM {
+        return refused(rt, Refusal::ShortBuffer);
+    }
+    let mut rack = Single::blank();
+    if let Err(fault) = rack.fill(&row) {
+        return refused(rt, fault.refusal());
+    }
+    let channel = Channel { rack, given };
+    channel.tell(rt, &receiver, out.as_mut_slice())
 }
 
-// The record of a row, lawful or not.
-fn channel(heap: Global, row: &str) -> anyhow::Result<Record> {
-    let bytes = to_bytes(heap, row)?;
-    let row = <[u8; RECORD_LENGTH]>::try_from(bytes.as_slice())?;
-    Ok(record::record_at(&row))
+fn refused(rt: &HostRuntime, refusal: Refusal) -> anyhow::Result<()> {
+    Ok(println!(rt; "refused {}", refusal.number())?)
 }
 
-fn header_of(supply: &str, others: &str) -> anyhow::Result<Header> {
+fn given(supply: &str, others: &str) -> anyhow::Result<Given> {
     let supply = supply.parse::<u32>()?;
     let others = others.parse::<u64>()?;
-    Ok(Header { supply, others })
+    Ok(Given { supply, others })
 }
 
-// What a call answered, with the record before and after it and the buffer after it.
-#[derive(Clone, Copy)]
-struct Outcome<'a> {
-    answer: Result<Option<usize>, Refusal>,
-    before: Record,
-    after: Record,
-    out: &'a [u8],
-}
-
-impl Outcome<'_> {
-    // Prints the answer, unless the call wrote what it has to leave alone.
-    fn tell(self, rt: &HostRuntime) -> anyhow::Result<()> {
-        if !self.leaves_the_rest() {
-            println!(rt; "bytes were written that had to stay")?;
-            return Ok(());
-        }
-        match self.answer {
-            Ok(Some(len)) => self.tell_bytes(rt, len),
-            Ok(None) => Ok(println!(rt; "silent")?),
-            Err(refusal) => Ok(println!(rt; "refused {}", refusal.number())?),
-        }
+// A receiver that took these characters; marks that are missing are 0.
+fn heard(heap: Global, bytes: &str, marks: &str) -> anyhow::Result<Receiver> {
+    let bytes = to_bytes(heap, bytes)?;
+    let marks = to_bytes(heap, marks)?;
+    let mut receiver = Receiver::new();
+    for (place, byte) in bytes.as_slice().iter().enumerate() {
+        let mark = marks.as_slice().get(place).copied().unwrap_or(0);
+        receiver.push(*byte, Marks::try_from(mark)?);
     }
-
-    // Whether the bytes past an answer are untouched, and without an answer all bytes of buffer and record.
-    fn leaves_the_rest(self) -> bool {
-        match self.answer {
-            Ok(Some(len)) => untouched(self.out.get(len..).unwrap_or(self.out)),
-            _ => {
-                untouched(self.out) && record::encode(&self.before) == record::encode(&self.after)
-            }
-        }
-    }
-
-    fn tell_bytes(self, rt: &HostRuntime, len: usize) -> anyhow::Result<()> {
-        let bytes = from_bytes(rt.alloc(), self.out.get(0..len).unwrap_or(&[]))?;
-        let after = from_bytes(rt.alloc(), &record::encode(&self.after))?;
-        println!(rt; "answered {bytes} {after}")?;
-        Ok(())
-    }
-}
-
-fn untouched(bytes: &[u8]) -> bool {
-    bytes.iter().all(|byte| *byte == UNTOUCHED)
+    Ok(receiver)
 }
