@@ -1,6 +1,6 @@
 //! Characters taken one by one.
 
-ghost use Rattle.std.specs.Prelude.{◌≡◌, []};
+ghost use Rattle.std.specs.Prelude.{◌≡◌, [], bit_or};
 ghost use Rattle.std.specs.Option.{option_map};
 ghost use Rattle.line.specs.Marks.{marks_number};
 ghost use Rattle.line.specs.Views.{reception};
@@ -57,7 +57,7 @@ impl Receiver {
             }
             _ => self.len = None,
         }
-        self.marks = self.marks.or(marks);
+        join(&mut self.marks, marks);
     }
 
     /// What was received, unless it is too long to be whole.
@@ -71,5 +71,14 @@ impl Receiver {
             span: &self.bytes[..self.len?],
             marks: self.marks,
         })
+    }
+}
+
+// Sets marks beside others. Most characters have none.
+fn join(all: &mut Marks, marks: Marks)
+    ensures { marks_number all.new ≡ bit_or (marks_number all.old) (marks_number marks) }
+{
+    if marks.any() {
+        *all = all.or(marks);
     }
 }
