@@ -1,4 +1,4 @@
-// Plays a recording of a panel: `rack.rec` beside it is the rack, events come from standard input, lines go to standard output.
+//! Plays a recording of a panel: `rack.rec` beside it is the rack, events come from standard input, lines go to standard output.
 #![tactic(auto)]
 
 use anyhow::Context;

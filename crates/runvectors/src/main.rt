@@ -1,9 +1,9 @@
-// Works through a table of recordings, one a line, and prints what each prints when it is played:
-//
-//     linerun RACK EVENTS     supplyrun SUPPLY RACK EVENTS
-//
-// RACK is a record file and EVENTS a recording, both in capital hexadecimal, '-' where there are none. What is printed has '/' in the
-// place of each line feed, '-' where it is nothing.
+//! Works through a table of recordings, one a line, and prints what each prints when it is played:
+//!
+//!     linerun RACK EVENTS     supplyrun SUPPLY RACK EVENTS
+//!
+//! RACK is a record file and EVENTS a recording, both in capital hexadecimal, '-' where there are none. What is printed has '/' in the
+//! place of each line feed, '-' where it is nothing.
 #![tactic(auto)]
 
 use anyhow::anyhow;

@@ -1,5 +1,5 @@
-// Plays a recording of a panel under the supply that is its argument, in mL/min: what would the panel have done under another one?
-// `rack.rec` beside it is the rack, events come from standard input, lines go to standard output.
+//! Plays a recording of a panel under the supply that is its argument, in mL/min: what would the panel have done under another one?
+//! `rack.rec` beside it is the rack, events come from standard input, lines go to standard output.
 #![tactic(auto)]
 
 use anyhow::{Context, anyhow, ensure};
