@@ -1,9 +1,11 @@
+//! The channels of the sample panel.
+
 use anyhow::Context;
-use tables::Letters;
 use rack::Rack;
 use record::{Fields, Record, value_of};
 use shelf::{Shelf, rack_file};
 use std::{fs, io};
+use tables::Letters;
 
 // What the header can give, in mL/min.
 pub(crate) const SUPPLY: u32 = 600_000;

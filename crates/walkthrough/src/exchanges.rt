@@ -1,15 +1,17 @@
+//! What a master asks the panel, and what comes of it.
+
 use crate::PREAMBLES;
 use crate::channels::SUPPLY;
 use crate::parts::{Part, show_parts};
 use anyhow::Context;
-use tables::SpacedHex;
-use frame::{Address, Transmission};
-use line::MAX_ANSWER;
+use frame::RequestParts;
+use line::ANSWER_ROOM;
 use master::{flow_pattern, long_address};
 use panel::Panel;
 use rack::Rack;
 use record::value_of;
 use shelf::Shelf;
+use tables::SpacedHex;
 
 // Numbers of a master's requests. They are its own: `line` tells what channels do.
 //
@@ -77,7 +79,7 @@ pub(crate) fn follow(rt: &HostRuntime, shelf: Shelf, question: &[u8]) -> anyhow:
     let mut panel = Panel::new(shelf);
     panel.set_up(SUPPLY)?;
     println!(rt; "\n7. The panel is set up with this supply, and hears the question:")?;
-    let mut line = [0; MAX_ANSWER];
+    let mut line = [0; ANSWER_ROOM];
     let len = hear(rt, &mut panel, question, &IDENTIFIER_REPLY, &mut line)?;
     let reply = line.get(0..len).unwrap_or(&[]);
     let address = long_address(reply).context("a reply with no identifier")?;
@@ -90,13 +92,13 @@ pub(crate) fn follow(rt: &HostRuntime, shelf: Shelf, question: &[u8]) -> anyhow:
 // Asks the channel with this long address for its flow.
 fn ask_flow<R: Rack>(rt: &HostRuntime, panel: &mut Panel<R>, address: &[u8]) -> anyhow::Result<()> {
     println!(rt; "\n8. The flow, asked with the long address from the reply:")?;
-    let question = Transmission {
+    let question = RequestParts {
         preambles: PREAMBLES,
-        address: Address::from(address),
+        address,
         command: READ_FLOW,
         data: &[],
     };
-    let mut line = [0; MAX_ANSWER];
+    let mut line = [0; ANSWER_ROOM];
     let len = ask(rt, panel, question, &FLOW_REPLY, &mut line)?;
     let reply = line.get(0..len).unwrap_or(&[]);
     let flow = flow_pattern(reply).context("a reply with no flow")?;
@@ -126,14 +128,14 @@ fn fill_header<R: Rack>(rt: &HostRuntime, panel: &mut Panel<R>) -> anyhow::Resul
 // A request whose check byte was damaged.
 fn send_damaged<R: Rack>(rt: &HostRuntime, panel: &mut Panel<R>) -> anyhow::Result<()> {
     println!(rt; "\n13. 0 percent for channel 0, with a damaged check. A communication error:")?;
-    let mut sent = [0; MAX_ANSWER];
+    let mut sent = [0; ANSWER_ROOM];
     let data = setpoint_data(0);
     let len = frame::make_request(setpoint_request(&[0x81], &data), &mut sent)?;
     let damaged = sent.get_mut(0..len).context("a request without bytes")?;
     if let Some(check) = damaged.last_mut() {
         *check ^= 0x01;
     }
-    let mut line = [0; MAX_ANSWER];
+    let mut line = [0; ANSWER_ROOM];
     println!(rt; "     {}", SpacedHex(damaged))?;
     hear(rt, panel, damaged, &DENIAL, &mut line)?;
     Ok(())
@@ -144,10 +146,10 @@ fn setpoint_data(pattern: u32) -> [u8; 5] {
     [PERCENT, b0, b1, b2, b3]
 }
 
-fn setpoint_request<'a>(address: &'a [u8], data: &'a [u8]) -> Transmission<'a> {
-    Transmission {
+fn setpoint_request<'a>(address: &'a [u8], data: &'a [u8]) -> RequestParts<'a> {
+    RequestParts {
         preambles: PREAMBLES,
-        address: Address::from(address),
+        address,
         command: WRITE_SETPOINT,
         data,
     }
@@ -162,7 +164,7 @@ fn ask_setpoint<R: Rack>(
     parts: &[Part],
 ) -> anyhow::Result<()> {
     let data = setpoint_data(pattern);
-    let mut line = [0; MAX_ANSWER];
+    let mut line = [0; ANSWER_ROOM];
     ask(
         rt,
         panel,
@@ -177,11 +179,11 @@ fn ask_setpoint<R: Rack>(
 fn ask<R: Rack>(
     rt: &HostRuntime,
     panel: &mut Panel<R>,
-    question: Transmission<'_>,
+    question: RequestParts<'_>,
     parts: &[Part],
     line: &mut [u8],
 ) -> anyhow::Result<usize> {
-    let mut sent = [0; MAX_ANSWER];
+    let mut sent = [0; ANSWER_ROOM];
     let len = frame::make_request(question, &mut sent)?;
     let sent = sent.get(0..len).context("a request without bytes")?;
     println!(rt; "     {}", SpacedHex(sent))?;

@@ -1,5 +1,5 @@
-// A whole exchange with a panel, step by step: a master asks for the channel with a tag, and then this channel for its flow;
-// setpoints are refused and granted; a damaged request changes nothing.
+//! A whole exchange with a panel, step by step: a master asks for the channel with a tag, and then this channel for its flow;
+//! setpoints are refused and granted; a damaged request changes nothing.
 #![tactic(auto)]
 
 mod channels;
@@ -7,10 +7,10 @@ mod exchanges;
 mod parts;
 
 use anyhow::Context;
-use tables::{Letters, MasterName, SpacedHex, Width};
-use frame::{Address, Transmission};
+use frame::{RequestParts, Transmission};
 use parts::{Part, show_parts};
 use std::io;
+use tables::{Letters, MasterName, SpacedHex, Width};
 
 const TAG: [u8; 8] = *b"MFC-1234";
 
@@ -63,9 +63,9 @@ fn make_question(rt: &HostRuntime, line: &mut [u8]) -> anyhow::Result<usize> {
     let mut packed = [0; 6];
     text::pack(&TAG, &mut packed)?;
     show_tag(rt, &packed)?;
-    let question = Transmission {
+    let question = RequestParts {
         preambles: PREAMBLES,
-        address: Address::from(EVERY_CHANNEL.as_slice()),
+        address: &EVERY_CHANNEL,
         command: TAG_QUESTION,
         data: &packed,
     };
@@ -92,7 +92,11 @@ fn show_transmission(rt: &HostRuntime, heard: Transmission<'_>) -> io::Result<()
         MasterName(heard.address.master())
     )?;
     println!(rt; "     command {}", heard.command)?;
-    println!(rt; "     {} data bytes: {}", heard.data.len(), SpacedHex(heard.data))
+    println!(rt;
+        "     {} data bytes: {}",
+        heard.data.len(),
+        SpacedHex(heard.data)
+    )
 }
 
 fn show_letters(rt: &HostRuntime, letters: &[u8]) -> io::Result<()> {

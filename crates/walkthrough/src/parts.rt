@@ -1,5 +1,7 @@
-use tables::SpacedHex;
+//! Transmissions, part by part.
+
 use std::io;
+use tables::SpacedHex;
 
 // How many bytes a part of a transmission has, and what it is.
 #[derive(Clone, Copy)]
