@@ -1,8 +1,5 @@
 //! How a channel judges a transmission that means it.
 
-ghost use Rattle.std.specs.Prelude.{◌≡◌};
-ghost use Rattle.line.specs.Edits.{edits_of};
-
 use crate::accepted::AcceptedCommand;
 use crate::codes::ResponseCode;
 
