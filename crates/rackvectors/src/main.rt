@@ -1,9 +1,9 @@
-// Works through a table of writes to a rack, one a line, and prints what each answers:
-//
-//     write BYTES CEILING KIND VALUE..
-//
-// Bytes and patterns are capital hexadecimal, '-' where there are none. A write goes to a single instrument under a
-// ceiling, which then tells its 80 bytes.
+//! Works through a table of writes to a rack, one a line, and prints what each answers:
+//!
+//!     write BYTES CEILING KIND VALUE..
+//!
+//! Bytes and patterns are capital hexadecimal, '-' where there are none. A write goes to a single instrument under a
+//! ceiling, which then tells its 80 bytes.
 #![tactic(auto)]
 
 ghost use Rattle.std.specs.Prelude.{IfOk};
@@ -65,7 +65,8 @@ fn write(rt: &HostRuntime, mut rack: Ceiling<Single>, change: &[&str]) -> anyhow
 
 // A sample, by its two patterns.
 fn sample_of(flow: &str, temperature: &str) -> anyhow::Result<Change<'static>>
-    ensures { IfOk result (λ change. Samples (pattern_at flow.now) (pattern_at temperature.now) change) }
+    ensures { IfOk result
+        (λ change. Samples (pattern_at flow.now) (pattern_at temperature.now) change) }
 {
     let flow = value_of(to_pattern(flow)?);
     let temperature = value_of(to_pattern(temperature)?);

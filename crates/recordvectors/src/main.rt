@@ -1,9 +1,9 @@
-// Works through a table of records and record files, one a line, and prints what each is answered:
-//
-//     record BYTES     shelf BYTES     single BYTES     text RECORD PLACE
-//
-// The last asks a single instrument that was filled with the record for the text byte at a place.
-// Bytes are capital hexadecimal, '-' where there are none.
+//! Works through a table of records and record files, one a line, and prints what each is answered:
+//!
+//!     record BYTES     shelf BYTES     single BYTES     text RECORD PLACE
+//!
+//! The last asks a single instrument that was filled with the record for the text byte at a place.
+//! Bytes are capital hexadecimal, '-' where there are none.
 #![tactic(auto)]
 
 use anyhow::{Context, anyhow};
