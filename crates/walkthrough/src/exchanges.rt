@@ -206,3 +206,64 @@ fn hear<R: Rack>(
     show_parts(rt, line, parts)?;
     Ok(answer.length)
 }
+
+#[cfg(test)]
+mod tests {
+    use super::*;
+    use panel::is_alone;
+    use rack::blank_record;
+    use record::{RECORD_LENGTH, encode};
+    use std::test::Fail;
+
+    const TWO_RECORDS: usize = 2 * RECORD_LENGTH;
+
+    // The record of a channel at this polling address, with its key open.
+    fn record_at(polling_address: u8) -> [u8; RECORD_LENGTH] {
+        let mut record = blank_record();
+        record.fields.identification = u32::from(polling_address);
+        record.fields.polling_address = polling_address;
+        record.fields.ceiling = 100;
+        record.fields.key_open = true;
+        encode(&record)
+    }
+
+    fn two_records() -> [u8; TWO_RECORDS] {
+        let mut file = [0; TWO_RECORDS];
+        file[0..RECORD_LENGTH].copy_from_slice(&record_at(0));
+        file[RECORD_LENGTH..TWO_RECORDS].copy_from_slice(&record_at(1));
+        file
+    }
+
+    fn panel_of(file: &[u8]) -> Result<Panel<Shelf>, Fail> {
+        let mut shelf = Shelf::blank();
+        shelf.fill(file)?;
+        let mut panel = Panel::new(shelf);
+        panel.set_up(SUPPLY)?;
+        Ok(panel)
+    }
+
+    fn ask_for_25_percent(panel: &mut Panel<Shelf>) -> Result<(), Fail> {
+        let data = setpoint_data(0x41C8_0000);
+        let mut sent = [0; ANSWER_ROOM];
+        let len = frame::make_request(setpoint_request(&[0x81], &data), &mut sent)?;
+        for byte in sent.get(0..len).unwrap_or(&[]) {
+            panel.character(*byte, 0)?;
+        }
+        let mut line = [0; ANSWER_ROOM];
+        panel.gap(&mut line)?;
+        Ok(())
+    }
+
+    #[test]
+    fn a_channel_is_as_it_is_alone(rt: HostRuntime) -> Result<(), Fail> {
+        let mut panel = panel_of(&two_records())?;
+        let mut lone = panel_of(&record_at(1))?;
+        assert!(rt; is_alone(&panel, 1, &lone));
+        assert!(rt; !is_alone(&panel, 0, &lone));
+        ask_for_25_percent(&mut panel)?;
+        assert!(rt; !is_alone(&panel, 1, &lone));
+        ask_for_25_percent(&mut lone)?;
+        assert!(rt; is_alone(&panel, 1, &lone));
+        Ok(())
+    }
+}
