@@ -25,7 +25,8 @@ impl<'a> Meant<'a> {
     ghost use Rattle.serving.specs.Answering.{Answers, Ready, view_of};
 
     /// Writes what the judgement changes, and nothing else; then answers from the judgement and from
-    /// the channel as it is then.
+    /// the channel as it is then. Not inlined, so that silence is quick.
+    #[inline(never)]
     pub(crate) fn answer<R: Rack>(
         self,
         rack: &mut R,

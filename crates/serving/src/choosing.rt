@@ -24,7 +24,8 @@ pub fn sole_meant<R: Rack>(rack: &R, frame: Frame<'_>) -> Option<u8>
         return None;
     }
     let request = Request::of(frame.command, frame.data);
-    let mut meant = (0..count).filter(|channel| meant_at(rack, frame.address, request, *channel));
+    let address = frame.address;
+    let mut meant = (0..count).filter(move |channel| meant_at(rack, address, request, *channel));
     let channel = meant.next()?;
     meant.next().is_none().then_some(channel)
 }
@@ -42,7 +43,9 @@ fn meant_at<R: Rack>(rack: &R, address: Address, request: Request<'_>, channel: 
     address_means(address, fields) && tag_meant(rack, request, channel)
 }
 
-// Whether a request means a channel by its tag. Only a question for a tag needs it.
+// Whether a request means a channel by its tag. Only a question for a tag needs it. Not inlined, so
+// that the search through the channels is small.
+#[inline(never)]
 fn tag_meant<R: Rack>(rack: &R, request: Request<'_>, channel: u8) -> bool
     ensures { TellsTag (seen request.entry) (R.Rack.records rack.now) channel result }
 {

@@ -1,14 +1,19 @@
 //! The end of a transmission.
 
+ghost use Rattle.std.specs.Prelude.{◌≡◌, Some};
 ghost use Rattle.std.specs.Option.{option_map};
+ghost use Rattle.frame.specs.Views.{frame_parts};
 ghost use Rattle.line.specs.Views.{reception};
+ghost use Rattle.line.specs.Whole.{frame_of};
 ghost use Rattle.serving.specs.Answering.{Finds, view_of};
+ghost use Rattle.serving.specs.Meant.{sole_meant};
 ghost use Rattle.serving.specs.Serving.{Serves, served, Lawfully, answering_in};
 
 use crate::answering::Meant;
 use crate::answers::Answer;
 use crate::asking::Beside;
 use crate::choosing::sole_meant;
+use frame::Frame;
 use line::{ANSWER_ROOM, Received, judge};
 use rack::Rack;
 use refusals::Refusal;
@@ -41,6 +46,7 @@ pub fn serve<R: Rack>(
 }
 
 // The channel that is meant, if just one is, and its judgement.
+#[inline(always)]
 fn find<'a, R: Rack>(
     rack: &R,
     supply: Option<u32>,
@@ -53,6 +59,23 @@ fn find<'a, R: Rack>(
     let received = received?;
     let frame = received.frame()?;
     let channel = sole_meant(rack, frame)?;
+    judged(rack, supply, received, frame, channel)
+}
+
+// The judgement by the channel that a transmission means. Not inlined, so that silence is quick.
+#[inline(never)]
+fn judged<'a, R: Rack>(
+    rack: &R,
+    supply: u32,
+    received: Received<'a>,
+    frame: Frame<'a>,
+    channel: u8,
+) -> Option<Meant<'a>>
+    requires framed { frame_of (reception received) ≡ Some (frame_parts frame) }
+    requires sole { sole_meant (frame_parts frame) (R.Rack.records rack.now) ≡ Some channel }
+    ensures { let x = Some (reception received.entry) in
+        Finds (Some supply) (R.Rack.records rack.now) x (option_map view_of result) }
+{
     let fields = rack.fields(channel).ok()?;
     let beside = Beside {
         rack,
