@@ -46,11 +46,12 @@ impl Receiver {
     fn keep(&mut self, byte: u8, marks: Marks)
         ensures { held self.new ≡ pushed (held self.old) (character byte (marks_number marks)) }
     {
+        // By the byte first: most are no preamble, and one comparison tells that.
+        if byte == PREAMBLE && matches!(self.len, Some(0)) {
+            self.preambles = (self.preambles + 1).min(MIN_PREAMBLES);
+            return;
+        }
         match &mut self.len {
-            Some(0) if byte == PREAMBLE => {
-                self.preambles = (self.preambles + 1).min(MIN_PREAMBLES);
-                return;
-            }
             Some(len) if *len < MAX_SPAN => {
                 self.bytes[*len] = byte;
                 *len += 1;
