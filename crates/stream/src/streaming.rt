@@ -1,5 +1,6 @@
 ghost use Rattle.std.specs.Prelude.{◌≡◌, ◌<◌, true, None, [], length, is_ok, IsOk, IfOk, IfErr, OnOk, OnErr};
 ghost use Rattle.std.specs.Option.{option_to_list};
+ghost use Rattle.std.specs.Vec.{vec_allocator};
 ghost use Rattle.calls.specs.Views.{result_of};
 ghost use Rattle.recording.specs.Lines.{line_of};
 ghost use Rattle.stream.specs.Interruptions.{OfStream, CanInterrupt};
@@ -28,7 +29,9 @@ impl<R: Read + Drop, W: Write + Drop> EventStream<R, W> {
     }
 
     /// Where its lines are kept.
-    pub fn heap(&self) -> Global {
+    pub fn heap(&self) -> Global
+        ensures { result ≡ vec_allocator self.now.lines }
+    {
         *self.lines.allocator()
     }
 
