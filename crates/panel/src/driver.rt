@@ -22,9 +22,8 @@ pub trait Driver {
 
     /// The next call, or the end of the run.
     fn next(&mut self) -> Option<Call>
-        ensures {
-            MatchOption result (ends self.old self.new) (λ c. names self.old self.new (call_of c))
-        };
+        ensures { MatchOption result (ends self.old self.new)
+            (λ c. names self.old self.new (call_of c)) };
 
     /// What came of the call that was named. A gap is told with the room that there was: as much as was asked for, or all the buffer.
     fn hear(&mut self, call: Call, response: Result<Response<'_>, Refusal>)
