@@ -10,6 +10,7 @@ A crate that has the name of a library of the kit gets another.
 """
 
 import re
+import sys
 from pathlib import Path
 
 # A crate that has the name of a library of the kit, and its name now.
@@ -130,4 +131,8 @@ def main():
 
 
 if __name__ == "__main__":
-    main()
+    # It rewrites the repository that it stands in: a word, such as --help, only shows its text.
+    if sys.argv[1:]:
+        print(__doc__.strip())
+    else:
+        main()

@@ -1,6 +1,7 @@
 """The built programs: where they are, and a run of one."""
 
 import os
+import shlex
 import subprocess
 from pathlib import Path
 
@@ -9,6 +10,19 @@ SECONDS = 60
 
 # What the kit's `run` leaves in a crate.
 BUILT = {name: CRATES / name / "out" / name for name in ("linerun", "supplyrun")}
+
+
+def missing(path, name):
+    """That there is no program, and the command that builds it from where the reader stands."""
+    folder = os.path.relpath(CRATES / name)
+    return f"no program at {path}; build it with\n    {build_command(folder, name)}"
+
+
+def build_command(folder, name):
+    """It proves the program first, with all that it stands on."""
+    supply = " -- 1500" if name == "supplyrun" else ""
+    return (f"(cd {shlex.quote(folder)} && trap 'rm -f rack.rec' EXIT && cp data/rack.rec . &&"
+            f" rt run{supply} < stdin)")
 
 
 class Failed(Exception):

@@ -17,6 +17,7 @@ from pathlib import Path
 import some_racks
 import some_supplies
 from chance import Chance
+from helping import is_helped
 from making import Making
 from recording import expected
 from some_turns import some_end, some_turn
@@ -62,6 +63,8 @@ def begun(chance, program):
 
 
 def main(words):
+    if is_helped(words):
+        return 0
     seed, folder, *programs = words if len(words) in (2, 3) else ("", "")
     if not seed.isdigit() or not set(programs) <= set(PROGRAMS):
         print("usage: generator.py SEED FOLDER [PROGRAM]", file=sys.stderr)

@@ -13,6 +13,7 @@ sys.dont_write_bytecode = True  # leaves no cache folder in the repository
 
 import events
 import playing
+from helping import is_helped
 
 SUPPLY = 15_000_000
 
@@ -28,6 +29,8 @@ def lines(file, stream):
 
 
 def main(words):
+    if is_helped(words):
+        return 0
     if len(words) != 1:
         print("usage: linerun.py RACKFILE < EVENTS", file=sys.stderr)
         return 2

@@ -15,6 +15,7 @@ import recording_example
 import recording_exchange
 import recording_mixed
 import supplyrun
+from helping import is_helped
 
 FOLDER = Path(__file__).resolve().parent / "recordings"
 RECORDINGS = {"example": recording_example, "mixed": recording_mixed,
@@ -38,6 +39,8 @@ def every_file():
 
 
 def main(words):
+    if is_helped(words):
+        return 0
     if words not in ([], ["--check"]):
         print("usage: recordings.py [--check]")
         return 2

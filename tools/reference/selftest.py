@@ -25,6 +25,7 @@ import selftest_supplyrun
 import text
 from chance import Chance
 from expectation import code_of, expect
+from helping import is_helped
 from table import answer, bytes_of
 from vectors import operations
 
@@ -212,5 +213,5 @@ def main():
     print(f"{expectation.checks} checks passed")
 
 
-if __name__ == "__main__":
+if __name__ == "__main__" and not is_helped(sys.argv[1:]):
     main()

@@ -15,6 +15,7 @@ sys.dont_write_bytecode = True  # leaves no cache folder in the repository
 
 import playing
 import supplyevents
+from helping import is_helped
 
 MOST = 2**32 - 1
 DIGITS = frozenset("0123456789")
@@ -46,6 +47,8 @@ def lines(supply, file, stream):
 
 
 def main(words):
+    if is_helped(words):
+        return 0
     if len(words) != 2:
         print("usage: supplyrun.py SUPPLY RACKFILE < EVENTS", file=sys.stderr)
         return 2

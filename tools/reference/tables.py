@@ -3,6 +3,8 @@
 from collections import namedtuple
 from pathlib import Path
 
+from helping import is_helped
+
 CRATES = Path(__file__).resolve().parents[2] / "crates"
 
 # The folder's name, a call for the lines, one for the answer, and where the folder
@@ -71,6 +73,8 @@ def write(table):
 
 
 def main(table, words):
+    if is_helped(words):
+        return 0
     if words == ["--check"]:
         difference = check(table)
         if difference:

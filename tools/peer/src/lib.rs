@@ -10,6 +10,7 @@ pub mod frame;
 pub mod hex;
 pub mod panel;
 pub mod player;
+pub mod rack_file;
 pub mod receiver;
 pub mod record;
 pub mod refusal;
