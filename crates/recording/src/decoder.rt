@@ -10,7 +10,7 @@ use refusals::Refusal;
 
 pub const EVENT_LENGTH: usize = 12;
 
-/// The call of an event, by its kind in byte 0 (docs/LINERUN.md). Of the last eight bytes, the patterns of flow and temperature in a
+/// The call of an event, by its kind in byte 0 (docs/PLAYING.md). Of the last eight bytes, the patterns of flow and temperature in a
 /// sample, the first is the most significant one. Anything else is out of form.
 #[inline(always)]
 pub fn decode_event(event: &[u8; EVENT_LENGTH]) -> Result<Call, Refusal>

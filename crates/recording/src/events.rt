@@ -34,7 +34,7 @@ pub enum Pause {
 
 impl Format {
     /// What an event asks for, by its kind in byte 0: what `decode_event` knows, and in a recording of supplyrun what `decode_own`
-    /// knows (docs/SUPPLYRUN.md). Anything else is out of form.
+    /// knows (docs/PLAYING.md). Anything else is out of form.
     #[inline(always)]
     pub fn decode(self, event: &[u8; EVENT_LENGTH]) -> Result<Event, Refusal>
         ensures { asked_by result ≡ event_asks self event.now }
