@@ -6,3 +6,4 @@ pub mod Gaps
 pub mod Results
 pub mod Working
 pub mod Alone
+pub mod Through

@@ -14,11 +14,11 @@ use Rattle.refusals.specs.Refusals.{number_of}
 use Rattle.refusals.specs.declared.Refusal.{Refusal}
 use Rattle.runs.specs.Channel.{flow_channel}
 use Rattle.runs.specs.Outcomes.{outcome_of}
-use Rattle.runs.specs.Traces.{Result, gap, refused, silent}
+use Rattle.runs.specs.Traces.{Result, gap, taken, refused, silent, answered}
 use Rattle.serving.specs.Serving.{Answering, answering_to, answering_in, served, told, to_be_told, buffer_after, records_after, WritesOf, Serves}
 use Rattle.serving.specs.declared.answers.Answer.{Answer}
 use Rattle.panel.specs.declared.state.Panel.{Panel}
-use Rattle.panel.specs.Panels.{channels_of, outcome_in, records_in, Does, answering_result, answering_for, gap_with, gap_result_of, buffer_of, Wrote}
+use Rattle.panel.specs.Panels.{channels_of, outcome_in, records_in, Does, answering_result, answering_for, gap_with, gap_result_of, buffer_of, Wrote, Told}
 use Rattle.panel.proofs.Panels.{same_panel}
 use Rattle.panel.proofs.Doing.{does, refuses}
 use Rattle.panel.proofs.Gaps.{gap_comes}
@@ -110,12 +110,24 @@ idle_by wrote o None before after e n w = w
 idle_by wrote (Some k) (Some a) before after e n w = absurd (cc)
 idle_by wrote None (Some a) before after e n w = absurd (cc)
 
+-- a gap's result is what the channel that answers gives
+told_by : {X : Type 0} {G : Ghosts X} (p : Panel X G) (buffer : List ℕ) (y : Result flow_channel) (a : Option Answering) → answering_for p buffer ≡ a → y ≡ answering_result a → Told p buffer y
+told_by p buffer taken (Some a) e h = absurd (cc)
+told_by p buffer taken None e h = absurd (cc)
+told_by p buffer (refused n) (Some a) e h = absurd (cc)
+told_by p buffer (refused n) None e h = absurd (cc)
+told_by p buffer silent (Some a) e h = absurd (cc)
+told_by p buffer silent None e h = e
+told_by p buffer (answered channel bytes) (Some a) e h = (a, e, (cc), (cc))
+told_by p buffer (answered channel bytes) None e h = absurd (cc)
+
 -- all that is said of a gap
 pub record Gapped {X : Type 0} {G : Ghosts X} (p p' : Panel X G) (buffer buffer' : List ℕ) (result : results.Result (Option Answer) Refusal) : Type 0 where
   pub does : Does p p' (gap_with buffer) (gap_result_of result buffer')
   pub left : buffer' ≡ buffer_of (gap_result_of result buffer') buffer
   pub bound : IfOk result (λ o. IfSome o (λ a. a.length ≤ length buffer))
   pub writes : Wrote p p' (answering_for p buffer)
+  pub tells : Told p buffer (gap_result_of result buffer')
   pub idle : gap_result_of result buffer' ≡ silent → p'.rack ≡ p.rack
 
 module _ {X : Type 0} {G : Ghosts X} (p : Panel X G) (rack : X) (few : IfSome p.supply (λ _. length (G.records rack) ≤ 15)) (buffer buffer' : List ℕ) (x : Option Reception) (kept : x ≡ handed_on (held p.receiver)) where
@@ -141,6 +153,7 @@ module _ {X : Type 0} {G : Ghosts X} (p : Panel X G) (rack : X) (few : IfSome p.
           left = gap_buffer buffer buffer' (gap_result_of (Ok o) buffer') answering y front;
           bound = gap_bound buffer buffer' o answering r.tells front same;
           writes = serves.writes;
+          tells = told_by p buffer (gap_result_of (Ok o) buffer') answering r.served_is y;
           idle = λ s. idle_by G.wrote o answering p.rack rack r.tells (silent_none o buffer' s) writes;
         }
 
@@ -168,6 +181,7 @@ module _ {X : Type 0} {G : Ghosts X} (p : Panel X G) (rack : X) (few : IfSome p.
           left = serves.front ∙ ap (λ (a : Option Answering). buffer_after a buffer) s.none;
           bound = tt;
           writes = serves.writes;
+          tells = s.none;
           idle = λ _. unmoved_rack;
         }
 

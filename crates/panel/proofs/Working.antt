@@ -22,7 +22,7 @@ use Rattle.rack.specs.declared.racks.Rack.{Ghosts}
 use Rattle.receiver.specs.Holding.{Holds}
 use Rattle.panel.specs.declared.driver.Driver as drivers
 use Rattle.panel.specs.declared.state.Panel.{Panel}
-use Rattle.panel.specs.Panels.{records_in, outcome_in, result_of, buffer_of, Does}
+use Rattle.panel.specs.Panels.{records_in, outcome_in, result_of, buffer_of, Does, Through}
 use Rattle.panel.specs.Working.{Performed, Underway, GoesOn, buffer_after}
 
 -- a call that is taken or refused, and of which the driver is told just that
@@ -54,10 +54,11 @@ buffer_more (f ∷ trace) e buffer = buffer_more trace e (buffer_of f.result buf
 
 module _ {X : Type 0} {G : Ghosts X} {Dr : Type 0} {D : drivers.Ghosts Dr} (p p' : Panel X G) (d d' : Dr) (buffer : List ℕ) (call : Call) (r : results.Result (Unit {0}) Refusal) (o : results.Result Response Refusal) where
   pub performed : (called : Call) (k : traces.Call flow_channel) → called ≡ call → calls.call_of call ≡ k → MatchResult r (λ u. IsOkAnd o (λ v. v ≡ Taken)) (λ e. o ≡ Err e)
-      → D.hears d d' (calls.interaction_of called o) → Does p p' (calls.call_of call) (result_of r) → Performed D p p' d d' buffer buffer k
-  performed called k e named cases heard does = record {
+      → D.hears d d' (calls.interaction_of called o) → Does p p' (calls.call_of call) (result_of r) → Through p p' (calls.call_of call) (result_of r) → Performed D p p' d d' buffer buffer k
+  performed called k e named cases heard does through = record {
     result = calls.result_of o;
     does = rw (taken_as r o cases, ← named) does;
+    through = rw (taken_as r o cases, ← named) through;
     heard = rw (← named, ← e) heard;
     left = untouched r o cases;
   }

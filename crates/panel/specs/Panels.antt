@@ -15,7 +15,7 @@ use Rattle.refusals.specs.declared.Refusal.{Refusal}
 use Rattle.runs.specs.Channel.{flow_channel, Operation, edit_for}
 use Rattle.runs.specs.Outcomes.{Outcome, outcome}
 use Rattle.runs.specs.Steps.{Step}
-use Rattle.runs.specs.Traces.{Call, Result, gap, local, taken, refused, silent, answered, ◌▸◌}
+use Rattle.runs.specs.Traces.{Call, Result, character, gap, local, taken, refused, silent, answered, ◌▸◌}
 use Rattle.serving.specs.Serving.{Answering, answering_in, served, WritesOf, Lawfully}
 use Rattle.serving.specs.declared.answers.Answer.{Answer}
 use Rattle.panel.specs.declared.state.Panel.{Panel}
@@ -74,6 +74,13 @@ gap_result_of (Ok None) buffer = silent
 gap_result_of (Ok (Some a)) buffer = answered a.channel (take a.length buffer)
 gap_result_of (Err e) buffer = refused (number_of e)
 
+-- a call's answer in its result
+abbrev pub answer_in : Result flow_channel → results.Result (Unit {0}) ℕ
+answer_in taken = Ok tt
+answer_in (refused n) = Err n
+answer_in silent = Ok tt
+answer_in (answered channel bytes) = Ok tt
+
 module _ {X : Type 0} {G : Ghosts X} where
   -- the rack of a panel that was set up goes through just one write, and that of another through none
   abbrev pub OneWrite : Panel X G → Panel X G → ℕ → Edit → results.Result (Unit {0}) ℕ → Type 0
@@ -96,6 +103,13 @@ module _ {X : Type 0} {G : Ghosts X} where
   -- the rack goes through exactly these writes, and is the same value where none answers
   abbrev pub Wrote : Panel X G → Panel X G → Option Answering → Type 0
   Wrote p p' answering = WritesOf G.wrote answering p.rack p'.rack
+
+  -- What the rack goes through at a call: a character leaves it the same value, a gap takes it through the writes of the channel
+  -- that answers, and what is done at a channel itself through just one.
+  abbrev pub Through : Panel X G → Panel X G → Call flow_channel → Result flow_channel → Type 0
+  Through p p' (character c) result = p'.rack ≡ p.rack
+  Through p p' (gap room) result = (buffer : List ℕ) → length buffer ≡ room → Wrote p p' (answering_for p buffer)
+  Through p p' (local channel operation) result = OneWrite p p' channel (edit_for operation) (answer_in result)
 
   -- the law of answers, for the transmission that is answered
   abbrev pub AnsweredLawfully : Panel X G → List ℕ → Type 0
@@ -120,6 +134,15 @@ buffer_of taken buffer = buffer
 buffer_of (refused n) buffer = buffer
 buffer_of silent buffer = buffer
 buffer_of (answered channel bytes) buffer = in_front bytes buffer
+
+module _ {X : Type 0} {G : Ghosts X} where
+  -- what a gap gives that is not refused: silence, or the answer of the channel that answers
+  abbrev pub Told : Panel X G → List ℕ → Result flow_channel → Type 0
+  Told p buffer taken = ⊥
+  Told p buffer (refused n) = answering_for p buffer ≡ None
+  Told p buffer silent = answering_for p buffer ≡ None
+  Told p buffer (answered channel bytes) =
+      (a : Answering) × (answering_for p buffer ≡ Some a) × (channel ≡ a.channel) × (bytes ≡ a.bytes)
 
 -- the bytes of a record
 abbrev pub record_bytes : ℕ

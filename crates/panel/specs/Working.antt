@@ -11,7 +11,7 @@ use Rattle.runs.specs.Steps.{Run}
 use Rattle.runs.specs.Traces.{Call, Result, Interaction, Trace, gap, ◌▸◌}
 use Rattle.panel.specs.declared.driver.Driver as drivers
 use Rattle.panel.specs.declared.state.Panel.{Panel}
-use Rattle.panel.specs.Panels.{records_in, Does, buffer_of}
+use Rattle.panel.specs.Panels.{records_in, Does, Through, buffer_of}
 
 -- the buffer after calls, one after another: the answers stand in its front
 abbrev pub buffer_after : Trace flow_channel → List ℕ → List ℕ
@@ -63,20 +63,27 @@ module _ {X : Type 0} {G : Ghosts X} where
       (call : Call flow_channel) : Type 0 where
     pub result : Result flow_channel
     pub does : Does p p' call result
+    pub through : Through p p' call result
     pub heard : D.hears d d' (call ▸ result)
     pub left : buffer' ≡ buffer_of result buffer
 
-  -- Each call of a trace did what it does, one after another, on a panel that was set up or on one that was not.
+  -- Each call of a trace did what it does, one after another, on a panel that was set up or on one that was not, and took the rack
+  -- through just its own writes.
   pub data DoesAll (p : Panel X G) : Trace flow_channel → Panel X G → Type 0 where
     none : DoesAll p [] p
     more : {trace : Trace flow_channel} {p₁ p₂ : Panel X G} {call : Call flow_channel} {result : Result flow_channel}
-        → DoesAll p trace p₁ → Does p₁ p₂ call result → DoesAll p (trace ++ ((call ▸ result) ∷ [])) p₂
+        → DoesAll p trace p₁ → Does p₁ p₂ call result → Through p₁ p₂ call result
+        → DoesAll p (trace ++ ((call ▸ result) ∷ [])) p₂
 
   module _ {Dr : Type 0} (D : drivers.Ghosts Dr) (p p' : Panel X G) (d d' : Dr) (buffer buffer' : List ℕ) where
     -- A panel was set up under a supply, and worked by a driver that named each call knowing the results of all earlier ones: of
-    -- the trace of these calls the whole promise holds.
+    -- the trace of these calls the whole promise holds. The set-up leaves the rack as it is, and each call takes it through just its
+    -- own writes.
     pub record Worked (supply : ℕ) : Type 0 where
       pub trace : Trace flow_channel
+      pub begun : Panel X G
+      pub same_rack : begun.rack ≡ p.rack
+      pub done : DoesAll begun trace p'
       pub driven : Driven D.names D.hears (length buffer) D.ends d trace d'
       pub underway : Underway supply (records_in p) trace p'
       pub left : buffer' ≡ buffer_after trace buffer

@@ -2,7 +2,7 @@
 
 ghost use Rattle.std.specs.Prelude.{◌≡◌, ◌≤◌, false, length, is_ok, IfOk, IfSome};
 ghost use Rattle.runs.specs.Traces.{silent};
-ghost use Rattle.panel.specs.Panels.{Does, Wrote, AnsweredLawfully, answering_for, gap_with, gap_result_of, buffer_of};
+ghost use Rattle.panel.specs.Panels.{Does, Wrote, AnsweredLawfully, Told, answering_for, gap_with, gap_result_of, buffer_of};
 ghost use Rattle.panel.specs.Working.{GoesOn};
 
 use crate::state::Panel;
@@ -17,6 +17,7 @@ impl<R: Rack> Panel<R> {
         ensures does { Does self.old self.new (gap_with out.old) (gap_result_of result out.new) }
         ensures on { GoesOn self.old self.new (gap_with out.old) (gap_result_of result out.new) }
         ensures buffer { out.new ≡ buffer_of (gap_result_of result out.new) out.old }
+        ensures tells { Told self.old out.old (gap_result_of result out.new) }
         ensures bound { IfOk result (λ o. IfSome o (λ a. a.length ≤ length out.old)) }
         ensures writes { Wrote self.old self.new (answering_for self.old out.old) }
         ensures idle { gap_result_of result out.new ≡ silent → self.new.rack ≡ self.old.rack }

@@ -1,3 +1,5 @@
+//! A player works a panel: it names the calls of a recording, and prints what comes of each.
+
 ghost use Rattle.std.specs.Prelude.{◌≡◌};
 ghost use Rattle.player.specs.Players.{Asks, Names, Hears, Ends};
 ghost use Rattle.player.specs.declared.progress.Progress.TheVariants.{Going};

@@ -1,3 +1,5 @@
+//! What is done with a panel between the calls of a run, and the end of a player.
+
 ghost use Rattle.std.specs.Prelude.{◌≡◌, IfOk, IfErr};
 ghost use Rattle.stream.specs.Interruptions.{CanInterrupt};
 ghost use Rattle.stream.specs.Streams.{view_of, with_rest, Holds};

@@ -1,3 +1,5 @@
+//! A recording played whole.
+
 ghost use Rattle.std.specs.Prelude.{◌≡◌, ℕ, false, List, length, Some, is_ok, IfOk, MatchResult};
 ghost use Rattle.std.specs.Option.{option_map};
 ghost use Rattle.std.specs.Result.{result_err};

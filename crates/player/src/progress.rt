@@ -1,3 +1,5 @@
+//! How far a player has come.
+
 ghost use Rattle.std.specs.Prelude.{◌≡◌};
 ghost use Rattle.player.specs.Progress.{going?};
 

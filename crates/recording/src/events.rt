@@ -1,3 +1,5 @@
+//! What an event asks for, by its program.
+
 ghost use Rattle.std.specs.Prelude.{◌≡◌};
 ghost use Rattle.recording.specs.Events.{asked_by, own_asks, event_asks};
 

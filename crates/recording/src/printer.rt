@@ -1,3 +1,5 @@
+//! The lines of results.
+
 ghost use Rattle.std.specs.Prelude.{◌≡◌, [], ◌++◌, take, length, decimal, is_ok, IsOk, OnOk};
 ghost use Rattle.refusals.specs.Refusals.{number_of};
 ghost use Rattle.calls.specs.Views.{result_of};

@@ -1,3 +1,5 @@
+//! A recording that is read by blocks.
+
 ghost use Rattle.std.specs.Prelude.{◌≡◌, ◌%◌, ◌≤◌, length};
 
 use recording::EVENT_LENGTH;

@@ -1,3 +1,5 @@
+//! Why a recording was not played to its end.
+
 ghost use Rattle.std.specs.Prelude.{◌≡◌};
 ghost use Rattle.std.specs.IoError.{error_kind};
 ghost use Rattle.stream.specs.Interruptions.{words_of};

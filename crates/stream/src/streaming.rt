@@ -1,3 +1,5 @@
+//! Events as they are read, and lines as they are written.
+
 ghost use Rattle.std.specs.Prelude.{◌≡◌, ◌<◌, true, None, [], length, is_ok, IsOk, IfOk, IfErr, OnOk, OnErr};
 ghost use Rattle.std.specs.Option.{option_to_list};
 ghost use Rattle.std.specs.Vec.{vec_allocator};

@@ -21,7 +21,7 @@ loop-preserved g c =
       omega (arith, length-append l.0 (event ∷ [])),
       made.left ∙ (ap (buffer_of made.result) l.3 ∙ sym (buffer_more l.0 event c.args.buffer.now)),
       λ supply before earlier u. subst (λ (h : Trace flow_channel). Underway supply before h c.perform.new.panel) (append_assoc earlier l.0 (event ∷ [])) (goes_on made.does supply before (earlier ++ l.0) (l.4 supply before earlier u)),
-      more l.5 made.does,
+      more l.5 made.does made.through,
     )
 
 -- as many calls as a run may have
