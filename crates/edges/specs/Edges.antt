@@ -8,6 +8,7 @@ use Rattle.line.specs.Answers.{answer_room}
 use Rattle.line.specs.Characters.{Character}
 use Rattle.player.specs.Playing.{output_of}
 use Rattle.record.specs.declared.Record.{Record}
+use Rattle.recording.specs.Lines.{line_feed}
 use Rattle.recording.specs.declared.events.Format.TheVariants.{Linerun}
 use Rattle.runs.specs.Channel.{flow_channel}
 use Rattle.runs.specs.Outcomes.{outcome, outcome_of}
@@ -38,13 +39,9 @@ pub data Row : Type 0 where
   prints : List ℕ → List ℕ → List ℕ → Row
 
 -- the number of a refusal, if it is one
-abbrev pub refused_by : Result ℕ SetpointRefusal → Option ℕ
-refused_by (Ok load) = None
-refused_by (Err e) = Some (code_of e)
-
--- the byte that ends a printed line
-abbrev pub line_feed : ℕ
-line_feed = 10
+abbrev pub code_in : Result ℕ SetpointRefusal → Option ℕ
+code_in (Ok load) = None
+code_in (Err e) = Some (code_of e)
 
 -- bytes as characters without marks
 abbrev pub unmarked : List ℕ → List Character
@@ -60,7 +57,7 @@ abbrev pub Holds : Row → Type 0
 Holds (packs text bytes) = (text? text ≡ true) × (packed text ≡ bytes) × (unpacked bytes ≡ text)
 Holds (sends request bytes) = (request? request ≡ true) × (transmission request ≡ bytes) × (read_request bytes ≡ Ok request)
 Holds (weighs pattern load) = (has_load? (value_of pattern) ≡ true) × (load_of (value_of pattern) ≡ load)
-Holds (refuses pattern ceiling number) = refused_by (admitted_under ceiling (value_of pattern)) ≡ Some number
+Holds (refuses pattern ceiling number) = code_in (admitted_under ceiling (value_of pattern)) ≡ Some number
 Holds (answers supply records sent number answer after) = GapAfter supply records sent (answered number answer) after
 Holds (silences supply records sent) = GapAfter supply records sent silent records
 Holds (prints file recording line) = output_of Linerun largest_supply file recording ≡ line ++ line_feed ∷ []

@@ -1,17 +1,20 @@
 -- What a call on a panel does.
-use Rattle.std.specs.Prelude.{◌≡◌, ℕ, if◌then◌else◌, List, [], length, take, Some, None, Ok, Err, Option, leb, nat_lt, slice_get, MatchOption}
+use Rattle.std.specs.Prelude.{◌≡◌, ℕ, if◌then◌else◌, List, [], length, take, Some, None, Ok, Err, Option, nat_le, nat_lt, slice_get, MatchOption}
 use Rattle.std.specs.declared.result.Result as results
 use Rattle.header.specs.Shares.{capacity_of}
 use Rattle.line.specs.Characters.{Character}
 use Rattle.rack.specs.declared.racks.Rack.{Ghosts}
 use Rattle.rack.specs.Edits.{Edit}
+use Rattle.rack.specs.Refusals.{no_channel, out_of_form}
 use Rattle.receiver.specs.Holding.{Holds, pending}
 use Rattle.receiver.specs.Summaries.{handed_on, held}
 use Rattle.record.specs.Layout.{encoded}
+use Rattle.record.specs.Numbers.{record_length}
 use Rattle.record.specs.declared.Record.{Record}
 use Rattle.refusals.specs.Filling.{in_front}
 use Rattle.refusals.specs.Refusals.{number_of, numbered}
 use Rattle.refusals.specs.declared.Refusal.{Refusal}
+use Rattle.refusals.specs.declared.Refusal.TheVariants.{ShortBuffer}
 use Rattle.runs.specs.Channel.{flow_channel, Operation, edit_for}
 use Rattle.runs.specs.Outcomes.{Outcome, outcome}
 use Rattle.runs.specs.Steps.{Step}
@@ -119,9 +122,13 @@ module _ {X : Type 0} {G : Ghosts X} where
 abbrev pub gap_with : List ℕ → Call flow_channel
 gap_with buffer = gap (length buffer)
 
+-- response codes are below the numbers of calls' refusals
+abbrev pub first_call_number : ℕ
+first_call_number = 100
+
 -- the number of a call's refusal by that of a rack's: a rack's response code is none
 abbrev pub call_number : ℕ → ℕ
-call_number number = if leb 100 number then number else 110
+call_number number = if nat_le first_call_number number then number else out_of_form
 
 -- who answers, if anybody, as the result of a trace
 abbrev pub answering_result : Option Answering → Result flow_channel
@@ -144,16 +151,12 @@ module _ {X : Type 0} {G : Ghosts X} where
   Told p buffer (answered channel bytes) =
       (a : Answering) × (answering_for p buffer ≡ Some a) × (channel ≡ a.channel) × (bytes ≡ a.bytes)
 
--- the bytes of a record
-abbrev pub record_bytes : ℕ
-record_bytes = 80
-
 -- what a look at a channel answers: 101 where there is none, then 102 where the buffer is shorter than a record
 abbrev pub look_record : List ℕ → Option Record → results.Result (Unit {0}) ℕ
-look_record buffer (Some r) = if nat_lt (length buffer) record_bytes then Err 102 else Ok tt
-look_record buffer None = Err 101
+look_record buffer (Some r) = if nat_lt (length buffer) record_length then Err (number_of ShortBuffer) else Ok tt
+look_record buffer None = Err no_channel
 
 -- the buffer after it: the bytes of the record in its front
 abbrev pub look_buffer : List ℕ → Option Record → List ℕ
-look_buffer buffer (Some r) = if nat_lt (length buffer) record_bytes then buffer else in_front (encoded r) buffer
+look_buffer buffer (Some r) = if nat_lt (length buffer) record_length then buffer else in_front (encoded r) buffer
 look_buffer buffer None = buffer

@@ -6,7 +6,7 @@ use Rattle.std.specs.List.{AllByRecursion}
 use Rattle.header.specs.Shares.{capacity_of}
 use Rattle.hexdigits.specs.Hex.{hex_of}
 use Rattle.line.specs.Characters.{Character}
-use Rattle.panel.specs.Panels.{records_in, channels_of, channels_in, record_bytes, look_record, look_buffer}
+use Rattle.panel.specs.Panels.{records_in, channels_of, channels_in, look_record, look_buffer}
 use Rattle.panel.specs.Working.{Driven, Underway, WorkedOn}
 use Rattle.panel.specs.declared.driver.Driver as drivers
 use Rattle.panel.specs.declared.state.Panel.{Panel}
@@ -30,6 +30,7 @@ use Rattle.player.specs.declared.playing.PlayFault.{PlayFault}
 use Rattle.player.specs.declared.playing.PlayFault.TheVariants.{File, SetUp}
 use Rattle.player.specs.declared.progress.Progress.TheVariants.{Going}
 use Rattle.player.proofs.Printing.{driven}
+use Rattle.record.specs.Numbers.{record_length}
 
 -- the channels of a panel that was set up
 pub channels_are : {X : Type 0} {G : Ghosts X} (panel : Panel X G) (s : State) → Stands panel s → channels_in panel ≡ s.records
@@ -61,7 +62,7 @@ look_taken : (o : Option Record) (zeros bytes : List ℕ) → length zeros ≡ 8
 look_taken None zeros bytes h lawful e f = cc
 look_taken (Some r) zeros bytes h lawful e f =
     let text : length r.text ≡ 45 = (lawful r refl).text in
-    let enough : nat_lt (length zeros) record_bytes ≡ false = le-ltb (length zeros) record_bytes (omega (arith, h)) in
+    let enough : nat_lt (length zeros) record_length ≡ false = le-ltb (length zeros) record_length (omega (arith, h)) in
     let all : drop (length (encoded r)) zeros ≡ [] = drop_all (length (encoded r)) zeros (omega (arith, h, encoded_length r text)) in
     let filled : bytes ≡ encoded r =
     f ∙ (ap (λ (short? : Bool). cond short? zeros (in_front (encoded r) zeros)) enough ∙ (ap (λ (l : List ℕ). encoded r ++ l) all ∙ append-nil (encoded r))) in

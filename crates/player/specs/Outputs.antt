@@ -6,7 +6,8 @@ use Rattle.line.specs.Characters.{Character}
 use Rattle.record.specs.Layout.{encoded}
 use Rattle.record.specs.declared.Record.{Record}
 use Rattle.recording.specs.Events.{Asked, calls, pauses, event_asks}
-use Rattle.recording.specs.Lines.{refusal_line, line_of}
+use Rattle.rack.specs.Refusals.{no_channel}
+use Rattle.recording.specs.Lines.{line_feed, refusal_line, line_of}
 use Rattle.recording.specs.declared.events.Format.{Format}
 use Rattle.recording.specs.declared.events.Pause.TheVariants.{Look, SetUp}
 use Rattle.runs.specs.Channel.{flow_channel}
@@ -30,12 +31,12 @@ pub record Played : Type 0 where
 
 -- the line of a look at a channel, if there is one: its record's bytes
 abbrev pub look_line : Option Record → List ℕ
-look_line (Some r) = hex_of (encoded r) ++ 10 ∷ []
-look_line None = refusal_line 101
+look_line (Some r) = hex_of (encoded r) ++ line_feed ∷ []
+look_line None = refusal_line no_channel
 
 -- the line of a set-up again that is taken
 abbrev pub set_up_line : List ℕ
-set_up_line = codes "set up" ++ 10 ∷ []
+set_up_line = codes "set up" ++ line_feed ∷ []
 
 -- a call, by its one outcome
 abbrev pub call_played : State → Outcome flow_channel → Played

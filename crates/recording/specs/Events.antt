@@ -2,6 +2,8 @@
 use Rattle.std.specs.Prelude.{ℕ, Bool, ◌&&◌, List, Ok, Err, Result, ◌==◌, nat_le, slice_index, if◌then◌else◌}
 use Rattle.std.specs.List.{between}
 use Rattle.refusals.specs.Refusals.{number_of}
+use Rattle.line.specs.Answers.{answer_room}
+use Rattle.rack.specs.Refusals.{out_of_form}
 use Rattle.refusals.specs.declared.Refusal.{Refusal}
 use Rattle.setpoint.specs.Value.{value_of}
 use Rattle.record.specs.Bytes.{number32, zeros?}
@@ -46,14 +48,6 @@ look_kind = 6
 
 abbrev pub set_up_kind : ℕ
 set_up_kind = 7
-
--- a gap of no room of its own has room for any answer
-abbrev pub answer_room : ℕ
-answer_room = 64
-
--- out of form
-abbrev pub out_of_form : ℕ
-out_of_form = 110
 
 abbrev pub kind_of : List ℕ → ℕ
 kind_of event = slice_index event 0

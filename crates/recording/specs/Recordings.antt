@@ -2,10 +2,14 @@
 use Rattle.std.specs.Prelude.{ℕ, ◌*◌, ◌/◌, List, length, drop}
 use Rattle.std.specs.Simd.{first_chunks}
 
+-- the bytes of an event
+abbrev pub event_length : ℕ
+event_length = 12
+
 -- the complete events
 abbrev pub events_of : List ℕ → List (List ℕ)
-events_of bytes = first_chunks 12 (length bytes / 12) bytes
+events_of bytes = first_chunks event_length (length bytes / event_length) bytes
 
 -- the bytes of the last, incomplete one
 abbrev pub rest_of : List ℕ → List ℕ
-rest_of bytes = drop (length bytes / 12 * 12) bytes
+rest_of bytes = drop (length bytes / event_length * event_length) bytes

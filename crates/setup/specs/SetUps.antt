@@ -9,6 +9,7 @@ use Rattle.record.specs.declared.Fields.{Fields}
 use Rattle.record.specs.declared.Record.{Record}
 use Rattle.refusals.specs.Refusals.{number_of}
 use Rattle.refusals.specs.declared.Refusal.{Refusal}
+use Rattle.refusals.specs.declared.Refusal.TheVariants.{Supply, NumberOfRecords, SameIdentity, OverSupply}
 use Rattle.runs.specs.SetUps.{largest_supply, most_channels}
 
 -- The identity of a channel is its device type and its identification number.
@@ -52,8 +53,8 @@ refusal_in result = option_map number_of (result_err result)
 -- channels, two have the same identity, the shares do not fit.
 abbrev pub set_up_refusal : ℕ → List Record → Option ℕ
 set_up_refusal supply records =
-    if nat_lt largest_supply supply then Some 107
-    else if nat_lt most_channels (length records) then Some 104
-    else if any_same_identity? records then Some 105
+    if nat_lt largest_supply supply then Some (number_of Supply)
+    else if nat_lt most_channels (length records) then Some (number_of NumberOfRecords)
+    else if any_same_identity? records then Some (number_of SameIdentity)
     else if fits? supply (total_share records) then None
-    else Some 106
+    else Some (number_of OverSupply)

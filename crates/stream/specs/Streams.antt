@@ -3,16 +3,13 @@ use Rattle.std.specs.Prelude.{◌≡◌, ℕ, ◌<◌, ◌≤◌, Bool, true, fa
 use Rattle.stream.specs.declared.events.EventStream.{EventStream}
 use Rattle.stream.specs.declared.interruption.Interruption.{Interruption}
 use Rattle.recording.specs.Lines.{with_line, rest_line}
-use Rattle.recording.specs.Recordings.{events_of, rest_of}
+use Rattle.recording.specs.Recordings.{event_length, events_of, rest_of}
 
 -- the bytes of the block that were not taken yet
 abbrev pub unread_of : {R W : Type 0} → EventStream R W → List ℕ
 unread_of s = drop s.unread.start (take s.unread.end s.block)
 
 -- whether a whole event, of 12 bytes, came and was not taken yet
-abbrev pub event_length : ℕ
-event_length = 12
-
 abbrev pub WholeEvent : {R W : Type 0} → EventStream R W → Type 0
 WholeEvent s = event_length ≤ length (unread_of s)
 
