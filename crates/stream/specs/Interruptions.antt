@@ -1,5 +1,5 @@
 -- How an interruption prints, and which can come about.
-use Rattle.std.specs.Prelude.{ℕ, ◌-◌, ◌^◌, ◌≤◌, List, codes, Some, None, Option, ⊤}
+use Rattle.std.specs.Prelude.{ℕ, ◌-◌, ◌^◌, ◌≤◌, List, [], ◌≢◌, codes, Some, None, Option, ⊤}
 use Rattle.stream.specs.declared.interruption.Interruption.{Interruption}
 use Rattle.stream.specs.declared.interruption.Interruption.TheVariants.{Memory, Stream, Endless}
 
@@ -25,3 +25,9 @@ abbrev pub OfStream : Interruption → Type 0
 OfStream Endless = ⊥
 OfStream (Memory e) = ⊥
 OfStream (Stream kind) = ⊤
+
+-- the end of a recording with this rest: only the line of a rest can want memory
+abbrev pub Finishes : List ℕ → Interruption → Type 0
+Finishes rest Endless = ⊥
+Finishes rest (Memory e) = rest ≢ []
+Finishes rest (Stream kind) = ⊤

@@ -5,7 +5,7 @@ ghost use Rattle.std.specs.Option.{option_to_list};
 ghost use Rattle.std.specs.Vec.{vec_allocator};
 ghost use Rattle.calls.specs.Views.{result_of};
 ghost use Rattle.recording.specs.Lines.{line_of};
-ghost use Rattle.stream.specs.Interruptions.{OfStream, CanInterrupt};
+ghost use Rattle.stream.specs.Interruptions.{OfStream, Finishes};
 ghost use Rattle.stream.specs.Streams.{unread_of, WholeEvent, NoWholeEvent, view_of, begun, told, with_rest, TakesWhole, Holds, Written, WrittenFirst, NoneLost, Gives, TakesNext, ReadOn};
 
 use crate::events::{BLOCK_LENGTH, EventStream};
@@ -161,6 +161,7 @@ impl<R: Read + Drop, W: Write + Drop> EventStream<R, W> {
     /// Writes out what waits, and gives the writer back.
     pub fn close(mut self) -> Result<W, Interruption>
         ensures written { IfOk result (Holds W.Write.contents (view_of self)) }
+        ensures quiet { self.lines.items ≡ [] → result ≡ Ok self.output }
         ensures interrupted { IfErr result OfStream }
     {
         match self.write_out() {
@@ -172,7 +173,8 @@ impl<R: Read + Drop, W: Write + Drop> EventStream<R, W> {
     /// Closes a stream: what came and was not taken, of an event that is not whole, counts as a file of a wrong length.
     pub fn finish(mut self) -> Result<W, Interruption>
         ensures written { IfOk result (Holds W.Write.contents (with_rest (view_of self))) }
-        ensures interrupted { IfErr result (CanInterrupt 0) }
+        ensures quiet { unread_of self ≡ [] → self.lines.items ≡ [] → result ≡ Ok self.output }
+        ensures interrupted { IfErr result (Finishes (unread_of self)) }
     {
         if !self.unread().is_empty() {
             self.tell(Err(Refusal::NumberOfRecords))?;
