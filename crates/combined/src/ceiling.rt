@@ -80,7 +80,7 @@ impl<R: Rack> Rack for Ceiling<R> {
         ensures once { (self.new.percent ≡ self.old.percent)
             × passed_on R.Rack.wrote
             (turned_away self.old.percent (R.Rack.records self.old.below) channel
-                (edit_of change.entry))
+            (edit_of change.entry))
             self.old.below self.new.below channel (edit_of change.entry) (numbered result) }
         ensures same { is_ok result ≡ false → self.new ≡ self.old }
     {

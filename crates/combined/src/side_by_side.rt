@@ -35,7 +35,7 @@ impl<L: Rack, R: Rack> SideBySide<L, R> {
             (FoundAt (L.Rack.records self.now.left) (R.Rack.records self.now.right) channel) }
         ensures absent { OnErr result
             (channel_of (L.Rack.records self.now.left ++ R.Rack.records self.now.right) channel
-                ≡ None) }
+            ≡ None) }
     {
         let left = self.left.count();
         if channel >= MAX_CHANNELS {
