@@ -30,8 +30,8 @@ pub data Row : Type 0 where
   weighs : ℕ → ℕ → Row
   -- a setpoint's pattern is refused by this number under a ceiling in percent
   refuses : ℕ → ℕ → ℕ → Row
-  -- under a supply, a gap after these bytes, unmarked, is answered by the channel of this number, of these, with those bytes, and
-  -- those are the channels after it
+  -- under a supply, a gap after these bytes, unmarked, is answered by the channel of this number, of these, with
+  -- those bytes, and those are the channels after it
   answers : ℕ → List Record → List ℕ → ℕ → List ℕ → List Record → Row
   -- under a supply, a gap after these bytes, unmarked, meets silence from these channels, which stay
   silences : ℕ → List Record → List ℕ → Row
@@ -47,23 +47,26 @@ code_in (Err e) = Some (code_of e)
 abbrev pub unmarked : List ℕ → List Character
 unmarked bytes = map (λ b. record { byte = b; marks = 0 }) bytes
 
--- Channels whose set-up is taken under a supply, and then these bytes as characters and a gap: the result of the gap, and the channels
--- after it. Nothing is pending then.
-pub record GapAfter (supply : ℕ) (records : List Record) (sent : List ℕ) (result : CallResult flow_channel) (after : List Record) : Type 0 where
+-- Channels whose set-up is taken under a supply, and then these bytes as characters and a gap: the result of the gap,
+-- and the channels after it. Nothing is pending then.
+pub record GapAfter (supply : ℕ) (records : List Record) (sent : List ℕ) (result : CallResult flow_channel)
+    (after : List Record) : Type 0 where
   pub set_up : set_up_refusal supply records ≡ None
-  pub ended : outcome flow_channel (capacity_of supply) records (unmarked sent) (gap answer_room) ≡ outcome_of flow_channel result after []
+  pub ended : outcome flow_channel (capacity_of supply) records (unmarked sent) (gap answer_room)
+      ≡ outcome_of flow_channel result after []
 
-abbrev pub Holds : Row → Type 0
-Holds (packs text bytes) = (text? text ≡ true) × (packed text ≡ bytes) × (unpacked bytes ≡ text)
-Holds (sends request bytes) = (request? request ≡ true) × (transmission request ≡ bytes) × (read_request bytes ≡ Ok request)
-Holds (weighs pattern load) = (has_load? (value_of pattern) ≡ true) × (load_of (value_of pattern) ≡ load)
-Holds (refuses pattern ceiling number) = code_in (admitted_under ceiling (value_of pattern)) ≡ Some number
-Holds (answers supply records sent number answer after) = GapAfter supply records sent (answered number answer) after
-Holds (silences supply records sent) = GapAfter supply records sent silent records
-Holds (prints file recording line) = output_of Linerun largest_supply file recording ≡ line ++ line_feed ∷ []
+abbrev pub RowHolds : Row → Type 0
+RowHolds (packs text bytes) = (text? text ≡ true) × (packed text ≡ bytes) × (unpacked bytes ≡ text)
+RowHolds (sends request bytes) =
+    (request? request ≡ true) × (transmission request ≡ bytes) × (read_request bytes ≡ Ok request)
+RowHolds (weighs pattern load) = (has_load? (value_of pattern) ≡ true) × (load_of (value_of pattern) ≡ load)
+RowHolds (refuses pattern ceiling number) = code_in (admitted_under ceiling (value_of pattern)) ≡ Some number
+RowHolds (answers supply records sent number answer after) = GapAfter supply records sent (answered number answer) after
+RowHolds (silences supply records sent) = GapAfter supply records sent silent records
+RowHolds (prints file recording line) = output_of Linerun largest_supply file recording ≡ line ++ line_feed ∷ []
 
--- a channel of device type 70 and two preambles, with this identification number, polling address, assembly number, key and
--- setpoint, unchanged, its ceiling 100 percent, its full scale 1,000 mL/min
+-- a channel of device type 70 and two preambles, with this identification number, polling address, assembly number,
+-- key and setpoint, unchanged, its ceiling 100 percent, its full scale 1,000 mL/min
 abbrev pub channel_with : ℕ → ℕ → ℕ → Bool → ℕ → Record
 channel_with number polling assembly open? setpoint = record {
   fields = record {
@@ -99,8 +102,8 @@ full = 0x42c8_0000
 abbrev pub half : ℕ
 half = 0x4248_0000
 
--- Two channels with open keys, the second with this setpoint: the first, at polling address 1, has 100 percent, the second is at
--- polling address 2.
+-- Two channels with open keys, the second with this setpoint: the first, at polling address 1, has 100 percent, the
+-- second is at polling address 2.
 abbrev pub pair : ℕ → List Record
 pair setpoint = channel_with 1 1 7 true full ∷ channel_with 2 2 8 true setpoint ∷ []
 
@@ -131,11 +134,13 @@ rows =
     packs (codes "MFC-1234") tag
     -- the question for that tag, to every channel, from the primary master
     ∷ sends (asked 5 (0x80 ∷ 0 ∷ 0 ∷ 0 ∷ 0 ∷ []) 11 tag)
-    (0xff ∷ 0xff ∷ 0xff ∷ 0xff ∷ 0xff ∷ 0x82 ∷ 0x80 ∷ 0 ∷ 0 ∷ 0 ∷ 0 ∷ 0x0b ∷ 0x06 ∷ 0x34 ∷ 0x60 ∷ 0xed ∷ 0xc7 ∷ 0x2c ∷ 0xf4 ∷ 0xa9 ∷ [])
+    (0xff ∷ 0xff ∷ 0xff ∷ 0xff ∷ 0xff ∷ 0x82 ∷ 0x80 ∷ 0 ∷ 0 ∷ 0 ∷ 0 ∷ 0x0b
+    ∷ 0x06 ∷ 0x34 ∷ 0x60 ∷ 0xed ∷ 0xc7 ∷ 0x2c ∷ 0xf4 ∷ 0xa9 ∷ [])
     -- the question for the final assembly number, at polling address 1
     ∷ sends (asked 2 (0x81 ∷ []) 16 []) assembly_question
     -- the question for the unique identifier, at device type 70, identification number 1
-    ∷ sends (asked 2 (0x8a ∷ 0x46 ∷ 0 ∷ 0 ∷ 1 ∷ []) 0 []) (0xff ∷ 0xff ∷ 0x82 ∷ 0x8a ∷ 0x46 ∷ 0 ∷ 0 ∷ 1 ∷ 0 ∷ 0 ∷ 0x4f ∷ [])
+    ∷ sends (asked 2 (0x8a ∷ 0x46 ∷ 0 ∷ 0 ∷ 1 ∷ []) 0 [])
+    (0xff ∷ 0xff ∷ 0x82 ∷ 0x8a ∷ 0x46 ∷ 0 ∷ 0 ∷ 1 ∷ 0 ∷ 0 ∷ 0x4f ∷ [])
     -- loads: 25 percent, a tenth of a percent, the least percentage above 0, 100 percent
     ∷ weighs 0x41c8_0000 25600
     ∷ weighs 0x3dcc_cccd 103
@@ -153,16 +158,19 @@ rows =
     ∷ prints sample_file (recorded wrong_check) (codes "0 FFFF0681100288001D")
     -- the unique identifier, asked by the long address
     ∷ answers largest_supply (sample ∷ []) (0xff ∷ 0xff ∷ 0x82 ∷ 0x8a ∷ 0x46 ∷ 0 ∷ 0 ∷ 1 ∷ 0 ∷ 0 ∷ 0x4f ∷ [])
-    0 (0xff ∷ 0xff ∷ 0x86 ∷ 0x8a ∷ 0x46 ∷ 0 ∷ 0 ∷ 1 ∷ 0 ∷ 0x0e ∷ 0 ∷ 0 ∷ 0xfe ∷ 0x0a ∷ 0x46 ∷ 0x02 ∷ 0x05 ∷ 0x01 ∷ 0x01 ∷ 0x08 ∷ 0 ∷ 0 ∷ 0 ∷ 1 ∷ 0xf9 ∷ [])
+    0 (0xff ∷ 0xff ∷ 0x86 ∷ 0x8a ∷ 0x46 ∷ 0 ∷ 0 ∷ 1 ∷ 0 ∷ 0x0e ∷ 0 ∷ 0
+    ∷ 0xfe ∷ 0x0a ∷ 0x46 ∷ 0x02 ∷ 0x05 ∷ 0x01 ∷ 0x01 ∷ 0x08 ∷ 0 ∷ 0 ∷ 0 ∷ 1 ∷ 0xf9 ∷ [])
     (sample ∷ [])
     -- two channels at polling address 1: a short request meets silence
     ∷ silences largest_supply (sample ∷ channel_with 2 1 8 false 0 ∷ []) assembly_question
-    -- a supply of 1,500 mL/min, of which the first channel has 1,000: 500 are granted to the second and held after, and no more
+    -- a supply of 1,500 mL/min, of which the first channel has 1,000: 500 are granted to the second and held after,
+    -- and no more
     ∷ answers 1500 (pair 0) write_half
-    1 (0xff ∷ 0xff ∷ 0x06 ∷ 0x82 ∷ 0xec ∷ 0x0c ∷ 0 ∷ 0 ∷ 0x39 ∷ 0x42 ∷ 0x48 ∷ 0 ∷ 0 ∷ 0 ∷ 0x43 ∷ 0xfa ∷ 0 ∷ 0 ∷ 0xee ∷ []) (pair half)
+    1 (0xff ∷ 0xff ∷ 0x06 ∷ 0x82 ∷ 0xec ∷ 0x0c ∷ 0 ∷ 0
+    ∷ 0x39 ∷ 0x42 ∷ 0x48 ∷ 0 ∷ 0 ∷ 0 ∷ 0x43 ∷ 0xfa ∷ 0 ∷ 0 ∷ 0xee ∷ []) (pair half)
     ∷ answers 1500 (pair 0) write_above_half 1 (0xff ∷ 0xff ∷ 0x06 ∷ 0x82 ∷ 0xec ∷ 0x02 ∷ 0x10 ∷ 0 ∷ 0x7a ∷ []) (pair 0)
     ∷ []
 
 -- every row holds
 abbrev pub Edges : Type 0
-Edges = AllByRecursion Holds rows
+Edges = AllByRecursion RowHolds rows

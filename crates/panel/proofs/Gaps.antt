@@ -1,5 +1,5 @@
 -- A gap serves just what the run relation says.
-use Rattle.std.proofs.Common.{◌≡◌, ℕ, suc, ◌+◌, ◌<◌, ◌≤◌, min, Bool, true, false, cond, ◌&&◌, ltb, leb, List, [], ◌∷◌, length, set, IfSome, Some, None, Option, slice_get, length-set, sym, refl, ap, subst, ◌∙◌, inl, inr, arith}
+use Rattle.std.proofs.Common.{◌≡◌, ℕ, suc, ◌+◌, ◌<◌, ◌≤◌, min, Bool, true, false, cond, ◌&&◌, ltb, leb, List, [], ◌∷◌, length, take, set, IfSome, Some, None, Ok, Err, Option, slice_get, length-set, sym, refl, ap, subst, ◌∙◌, inl, inr, arith}
 use Rattle.std.specs.List.{AllByRecursion}
 use Rattle.std.specs.Option.{option_map, option_and_then, option_map_or}
 use Rattle.std.specs.Result.{result_ok}
@@ -12,6 +12,7 @@ use Rattle.frame.specs.Transmissions.{preambles_of, span_of}
 use Rattle.frame.proofs.Frames.{request_limit}
 use Rattle.header.specs.Shares.{capacity_of}
 use Rattle.line.specs.Addressing.{means?}
+use Rattle.line.specs.Answers.{AnswerLaw}
 use Rattle.line.specs.Characters.{Character, Reception, bytes_in, received}
 use Rattle.line.specs.Codes.{asked_share}
 use Rattle.line.specs.Judgements.{Judgement, refused, judgement, own_judgement}
@@ -27,9 +28,10 @@ use Rattle.runs.proofs.Judgements.{judgement_split}
 use Rattle.runs.proofs.Places.{at_get, set_same}
 use Rattle.runs.proofs.Unsound.{whole_frame}
 use Rattle.serving.specs.Meant.{sole_meant}
-use Rattle.serving.specs.Serving.{Answering, allotment_of, answering_by, answering_at, answering_to, records_after}
+use Rattle.serving.specs.Serving.{Answering, allotment_of, answering_by, answering_at, answering_to, answering_in, served, records_after, Lawfully}
 use Rattle.receiver.specs.Summaries.{Summary, summary_of, held, handed_on}
-use Rattle.receiver.specs.Holding.{Holds}
+use Rattle.receiver.specs.Holding.{Holds, pending}
+use Rattle.receiver.proofs.Pending.{holds_pending}
 use Rattle.receiver.specs.declared.state.Receiver.{Receiver}
 use Rattle.panel.specs.Panels.{outcome_for, answering_result}
 use Rattle.panel.proofs.Doing.{Comes, comes}
@@ -128,6 +130,48 @@ module _ (supply : ℕ) (records : List Record) (t : List Character) where
         let s = take_all 264 (span_of (bytes_in t)) (ltb-false 264 (length (span_of (bytes_in t))) b) in
         rw b (ap (λ (u : List ℕ). answering_to (Some supply) records (Some (record { preambles = min (received t).preambles 2; span = u; marks = (received t).marks }))) s ∙ low_replied)
   ]
+
+-- the law of the bytes that are kept is that of the whole transmission
+law_whole : (x : Reception) (b : Bool) → ltb 264 (length x.span) ≡ b → (a : Option Answering) → (b ≡ true → a ≡ None)
+    → Lawfully (cond b None (Some (record { preambles = min x.preambles 2; span = take 264 x.span; marks = x.marks }))) a → Lawfully (Some x) a
+law_whole x true e None none l = tt
+law_whole x true e (Some a) none l = absurd (let h = none refl in cc)
+law_whole x false e None none l = tt
+law_whole x false e (Some a) none l = subst (λ (u : List ℕ). AnswerLaw u a.after.fields.preambles a.bytes) (take_all 264 x.span (ltb-false 264 (length x.span) e)) l
+
+-- a transmission that is too long has no answer
+unanswered : (supply : Option ℕ) (records : List Record) (b : Bool) → answering_in (cond b (Err 102) (Ok (answering_to supply records None))) ≡ None
+unanswered None records true = refl
+unanswered None records false = refl
+unanswered (Some supply) records true = refl
+unanswered (Some supply) records false = refl
+
+module _ (supply : Option ℕ) (records : List Record) (x : Receiver) (buffer : List ℕ) where
+  abbrev the_reception : Reception
+  the_reception = received (pending x)
+
+  abbrev kept_answering : Option Answering
+  kept_answering = answering_in (served supply records (handed_on (held x)) buffer)
+
+  replied_by : (o : Option ℕ) → answering_to o records (Some the_reception) ≡ answering_to o records (handed_on (held x))
+  replied_by None = refl
+  replied_by (Some n) =
+      let h = holds_pending x in
+      sym (ap (λ (s : Summary). answering_to (Some n) records (handed_on s)) h.kept ∙ kept_replied n records (pending x) h.bytes)
+
+  -- what answers by what is kept is what answers by the pending characters
+  pub pending_served : answering_in (served supply records (Some the_reception) buffer) ≡ kept_answering
+  pending_served = ap (λ (a : Option Answering). answering_in (cond (ltb (length buffer) 64) (Err 102) (Ok a))) (replied_by supply)
+
+  none_kept : ltb 264 (length the_reception.span) ≡ true → kept_answering ≡ None
+  none_kept e =
+      let k : handed_on (held x) ≡ None = ap handed_on (holds_pending x).kept ∙ rw e refl in
+      subst (λ (y : Option Reception). answering_in (served supply records y buffer) ≡ None) (sym k) (unanswered supply records (ltb (length buffer) 64))
+
+  pub pending_lawful : Lawfully (handed_on (held x)) kept_answering → Lawfully (Some the_reception) (answering_in (served supply records (Some the_reception) buffer))
+  pending_lawful l =
+      let k = subst (λ (s : Summary). Lawfully (handed_on s) kept_answering) (holds_pending x).kept l in
+      subst (λ (a : Option Answering). Lawfully (Some the_reception) a) (sym pending_served) (law_whole the_reception (ltb 264 (length the_reception.span)) refl kept_answering none_kept k)
 
 -- without channels a gap is silent
 silent_gap : (records : List Record) (t : List Character) (n : ℕ) → 64 ≤ n → outcome_for None records t (gap n) ≡ outcome_of flow_channel silent [] []

@@ -21,7 +21,7 @@ use Rattle.panel.specs.declared.state.Panel.{Panel}
 use Rattle.panel.specs.Panels.{channels_of, outcome_in, records_in, Does, answering_result, answering_for, gap_with, gap_result_of, buffer_of, Wrote, Told}
 use Rattle.panel.proofs.Panels.{same_panel}
 use Rattle.panel.proofs.Doing.{does, refuses}
-use Rattle.panel.proofs.Gaps.{gap_comes}
+use Rattle.panel.proofs.Gaps.{gap_comes, pending_served}
 
 -- the answer by channel and length, and the buffer with it in front
 module _ (buffer buffer' : List ℕ) where
@@ -134,6 +134,15 @@ module _ {X : Type 0} {G : Ghosts X} (p : Panel X G) (rack : X) (few : IfSome p.
   abbrev Serving : Option Reception → results.Result (Option Answer) Refusal → Type 0
   Serving y result = Serves G.records G.wrote (served p.supply (records_in p) y buffer) p.rack rack buffer buffer' result
 
+  abbrev kept_answering : Option Answering
+  kept_answering = answering_in (served p.supply (records_in p) (handed_on (held p.receiver)) buffer)
+
+  by_pending : answering_for p buffer ≡ kept_answering
+  by_pending = pending_served p.supply (records_in p) p.receiver buffer
+
+  wrote_so : (p' : Panel X G) → Wrote p p' kept_answering → Wrote p p' (answering_for p buffer)
+  wrote_so p' w = subst (λ (a : Option Answering). Wrote p p' a) (sym by_pending) w
+
   module _ (receiver : Receiver) (o : Option Answer) (serves : Serving (handed_on (held p.receiver)) (Ok o)) (new : Holds receiver []) (same : length buffer' ≡ length buffer) where
     abbrev after : Panel X G
     after = record { rack = rack; receiver = receiver; supply = p.supply; few = few }
@@ -152,8 +161,8 @@ module _ {X : Type 0} {G : Ghosts X} (p : Panel X G) (rack : X) (few : IfSome p.
           does = gap_does p after (length buffer) (gap_result_of (Ok o) buffer') r.room new refl (leaves, y);
           left = gap_buffer buffer buffer' (gap_result_of (Ok o) buffer') answering y front;
           bound = gap_bound buffer buffer' o answering r.tells front same;
-          writes = serves.writes;
-          tells = told_by p buffer (gap_result_of (Ok o) buffer') answering r.served_is y;
+          writes = wrote_so after serves.writes;
+          tells = told_by p buffer (gap_result_of (Ok o) buffer') answering (by_pending ∙ r.served_is) y;
           idle = λ s. idle_by G.wrote o answering p.rack rack r.tells (silent_none o buffer' s) writes;
         }
 
@@ -180,8 +189,8 @@ module _ {X : Type 0} {G : Ghosts X} (p : Panel X G) (rack : X) (few : IfSome p.
           does = subst (λ (q : Panel X G). Does p q (gap_with buffer) (refused (number_of d))) (sym same_by) (gap_refused p (length buffer) (number_of d) s.short s.number);
           left = serves.front ∙ ap (λ (a : Option Answering). buffer_after a buffer) s.none;
           bound = tt;
-          writes = serves.writes;
-          tells = s.none;
+          writes = wrote_so kept_panel serves.writes;
+          tells = by_pending ∙ s.none;
           idle = λ _. unmoved_rack;
         }
 

@@ -23,8 +23,8 @@ only_record? (Some r) (q ∷ s ∷ records) = false
 only_record? None records = false
 
 module _ {X Y : Type 0} {G : Ghosts X} {H : Ghosts Y} where
-  -- ISOLATION OF PANELS. A panel is under way by a trace since a set-up under a supply, when its rack meant the records before, and
-  -- one of them was r. Another panel, over any rack:
+  -- ISOLATION OF PANELS. A panel is under way by a trace since a set-up under a supply, when its rack meant the
+  -- records before, and one of them was r. Another panel, over any rack:
   pub record Apart (supply : ℕ) (place : ℕ) (r : Record) (trace : Trace flow_channel) (p : Panel X G) (q : Panel Y H)
       (told : Bool) : Type 0 where
     -- its set-up is not refused, if it holds just r

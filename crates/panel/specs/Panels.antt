@@ -2,12 +2,11 @@
 use Rattle.std.specs.Prelude.{◌≡◌, ℕ, if◌then◌else◌, List, [], length, take, Some, None, Ok, Err, Option, nat_le, nat_lt, slice_get, MatchOption}
 use Rattle.std.specs.declared.result.Result as results
 use Rattle.header.specs.Shares.{capacity_of}
-use Rattle.line.specs.Characters.{Character}
+use Rattle.line.specs.Characters.{Character, received}
 use Rattle.rack.specs.declared.racks.Rack.{Ghosts}
 use Rattle.rack.specs.Edits.{Edit}
 use Rattle.rack.specs.Refusals.{no_channel, out_of_form}
 use Rattle.receiver.specs.Holding.{Holds, pending}
-use Rattle.receiver.specs.Summaries.{handed_on, held}
 use Rattle.record.specs.Layout.{encoded}
 use Rattle.record.specs.Numbers.{record_length}
 use Rattle.record.specs.declared.Record.{Record}
@@ -55,16 +54,17 @@ module _ {X : Type 0} {G : Ghosts X} where
   abbrev pub outcome_in : Panel X G → List Character → Call flow_channel → Outcome flow_channel
   outcome_in p t call = outcome_for p.supply (records_in p) t call
 
-  -- A call that keeps the supply of a panel has this result and leaves these records: they are those of its one outcome, by the
-  -- characters that the receiver may be taken to hold. Whatever characters it holds, it then holds those after the call; and on a
-  -- panel that was set up the call is one step of the run relation.
+  -- A call that keeps the supply of a panel has this result and leaves these records: they are those of its one
+  -- outcome, by the characters that the receiver may be taken to hold. Whatever characters it holds, it then holds
+  -- those after the call; and on a panel that was set up the call is one step of the run relation.
   pub record Does (p p' : Panel X G) (call : Call flow_channel) (result : Result flow_channel) : Type 0 where
     pub keeps : p'.supply ≡ p.supply
     pub result_is : result ≡ (outcome_in p (pending p.receiver) call).result
     pub records_are : records_in p' ≡ records_for p.supply (records_in p) (outcome_in p (pending p.receiver) call)
     pub holds : (t : List Character) → Holds p.receiver t → Holds p'.receiver (outcome_in p t call).pending
     pub steps : (supply : ℕ) → p.supply ≡ Some supply → (t : List Character) → Holds p.receiver t
-        → Step flow_channel (capacity_of supply) (records_in p) t (call ▸ result) (records_in p') (outcome_in p t call).pending
+        → Step flow_channel (capacity_of supply) (records_in p) t (call ▸ result) (records_in p')
+        (outcome_in p t call).pending
 
 -- a call's answer as the result of a trace
 abbrev pub result_of : results.Result (Unit {0}) Refusal → Result flow_channel
@@ -99,16 +99,17 @@ module _ {X : Type 0} {G : Ghosts X} where
   abbrev pub Operates : Panel X G → Panel X G → ℕ → Edit → results.Result (Unit {0}) Refusal → Type 0
   Operates p p' channel edit result = (o : Operation) → edit ≡ edit_for o → Operated p p' channel o result
 
-  -- which channel answers a gap with a lent buffer, if one does, by what, and what it writes
+  -- which channel answers a gap with a lent buffer, if one does, by what, and what it writes: by what is received of
+  -- the characters that are pending
   abbrev pub answering_for : Panel X G → List ℕ → Option Answering
-  answering_for p buffer = answering_in (served p.supply (records_in p) (handed_on (held p.receiver)) buffer)
+  answering_for p buffer = answering_in (served p.supply (records_in p) (Some (received (pending p.receiver))) buffer)
 
   -- the rack goes through exactly these writes, and is the same value where none answers
   abbrev pub Wrote : Panel X G → Panel X G → Option Answering → Type 0
   Wrote p p' answering = WritesOf G.wrote answering p.rack p'.rack
 
-  -- What the rack goes through at a call: a character leaves it the same value, a gap takes it through the writes of the channel
-  -- that answers, and what is done at a channel itself through just one.
+  -- What the rack goes through at a call: a character leaves it the same value, a gap takes it through the writes of
+  -- the channel that answers, and what is done at a channel itself through just one.
   abbrev pub Through : Panel X G → Panel X G → Call flow_channel → Result flow_channel → Type 0
   Through p p' (character c) result = p'.rack ≡ p.rack
   Through p p' (gap room) result = (buffer : List ℕ) → length buffer ≡ room → Wrote p p' (answering_for p buffer)
@@ -116,7 +117,7 @@ module _ {X : Type 0} {G : Ghosts X} where
 
   -- the law of answers, for the transmission that is answered
   abbrev pub AnsweredLawfully : Panel X G → List ℕ → Type 0
-  AnsweredLawfully p buffer = Lawfully (handed_on (held p.receiver)) (answering_for p buffer)
+  AnsweredLawfully p buffer = Lawfully (Some (received (pending p.receiver))) (answering_for p buffer)
 
 -- a gap with a lent buffer
 abbrev pub gap_with : List ℕ → Call flow_channel

@@ -18,19 +18,21 @@ abbrev pub buffer_after : Trace flow_channel → List ℕ → List ℕ
 buffer_after [] buffer = buffer
 buffer_after (e ∷ trace) buffer = buffer_after trace (buffer_of e.result buffer)
 
--- the call that is made where one was named, with a buffer of n bytes: a gap has as much room as was asked for, or all the buffer
+-- the call that is made where one was named, with a buffer of n bytes: a gap has as much room as was asked for, or
+-- all the buffer
 abbrev pub within : ℕ → Call flow_channel → Call flow_channel
 within n (gap room) = gap (min room n)
 within n c = c
 
-module _ {Dr : Type 0} (names : Dr → Dr → Call flow_channel → Type 0) (hears : Dr → Dr → Interaction flow_channel → Type 0)
-    (n : ℕ) where
-  -- What a driver did, from the one before to the one after: it named each call of a trace, and was told it with its result before
-  -- it named another.
+module _ {Dr : Type 0} (names : Dr → Dr → Call flow_channel → Type 0)
+    (hears : Dr → Dr → Interaction flow_channel → Type 0) (n : ℕ) where
+  -- What a driver did, from the one before to the one after: it named each call of a trace, and was told it with its
+  -- result before it named another.
   pub data Drives (d : Dr) : Trace flow_channel → Dr → Type 0 where
     begins : Drives d [] d
     goes : {trace : Trace flow_channel} {d₁ d₂ d₃ : Dr} {c : Call flow_channel} {x : Result flow_channel}
-        → Drives d trace d₁ → names d₁ d₂ c → hears d₂ d₃ (within n c ▸ x) → Drives d (trace ++ ((within n c ▸ x) ∷ [])) d₃
+        → Drives d trace d₁ → names d₁ d₂ c → hears d₂ d₃ (within n c ▸ x)
+        → Drives d (trace ++ ((within n c ▸ x) ∷ [])) d₃
 
   -- it did so till it ended the run, or till the most calls that a run may have
   pub record Driven (ends : Dr → Dr → Type 0) (d : Dr) (trace : Trace flow_channel) (d' : Dr) : Type 0 where
@@ -39,9 +41,10 @@ module _ {Dr : Type 0} (names : Dr → Dr → Call flow_channel → Type 0) (hea
     pub ended : ends last d' ⊎ ((2 ^ 64 - 1 ≤ length trace) × (last ≡ d'))
 
 module _ {X : Type 0} {G : Ghosts X} where
-  -- THE PROMISE, WHOLE, of a panel that was set up under a supply when its rack meant the records before, and of all calls since,
-  -- a trace: it is a run of the relation from those records to the ones that the rack means now and to the characters that are
-  -- pending after the trace, which the receiver holds. For that run isolation, damage, header and records are promised.
+  -- THE PROMISE, WHOLE, of a panel that was set up under a supply when its rack meant the records before, and of all
+  -- calls since, a trace: it is a run of the relation from those records to the ones that the rack means now and to
+  -- the characters that are pending after the trace, which the receiver holds. For that run isolation, damage, header
+  -- and records are promised.
   pub record Underway (supply : ℕ) (before : List Record) (trace : Trace flow_channel) (p : Panel X G) : Type 0 where
     pub set_up : SetUp supply before
     pub supply_is : p.supply ≡ Some supply
@@ -67,8 +70,8 @@ module _ {X : Type 0} {G : Ghosts X} where
     pub heard : D.hears d d' (call ▸ result)
     pub left : buffer' ≡ buffer_of result buffer
 
-  -- Each call of a trace did what it does, one after another, on a panel that was set up or on one that was not, and took the rack
-  -- through just its own writes.
+  -- Each call of a trace did what it does, one after another, on a panel that was set up or on one that was not, and
+  -- took the rack through just its own writes.
   pub data DoesAll (p : Panel X G) : Trace flow_channel → Panel X G → Type 0 where
     none : DoesAll p [] p
     more : {trace : Trace flow_channel} {p₁ p₂ : Panel X G} {call : Call flow_channel} {result : Result flow_channel}
@@ -76,9 +79,9 @@ module _ {X : Type 0} {G : Ghosts X} where
         → DoesAll p (trace ++ ((call ▸ result) ∷ [])) p₂
 
   module _ {Dr : Type 0} (D : drivers.Ghosts Dr) (p p' : Panel X G) (d d' : Dr) (buffer buffer' : List ℕ) where
-    -- A panel was set up under a supply, and worked by a driver that named each call knowing the results of all earlier ones: of
-    -- the trace of these calls the whole promise holds. The set-up leaves the rack as it is, and each call takes it through just its
-    -- own writes.
+    -- A panel was set up under a supply, and worked by a driver that named each call knowing the results of all
+    -- earlier ones: of the trace of these calls the whole promise holds. The set-up leaves the rack as it is, and
+    -- each call takes it through just its own writes.
     pub record Worked (supply : ℕ) : Type 0 where
       pub trace : Trace flow_channel
       pub begun : Panel X G
@@ -88,8 +91,8 @@ module _ {X : Type 0} {G : Ghosts X} where
       pub underway : Underway supply (records_in p) trace p'
       pub left : buffer' ≡ buffer_after trace buffer
 
-    -- It was worked on: each call did what it does, and whatever was promised of the calls till then is promised of those and
-    -- these.
+    -- It was worked on: each call did what it does, and whatever was promised of the calls till then is promised of
+    -- those and these.
     pub record WorkedOn : Type 0 where
       pub trace : Trace flow_channel
       pub driven : Driven D.names D.hears (length buffer) D.ends d trace d'

@@ -18,11 +18,11 @@ use Rattle.runs.specs.Steps.{Run, goes as goes_run, rests}
 use Rattle.runs.specs.Traces.{Call, Interaction, Trace, character, gap, local, refused, ◌▸◌}
 use Rattle.stream.proofs.Views.{line_told, held}
 use Rattle.stream.specs.Interruptions.{countless, CanInterrupt, OfStream}
-use Rattle.stream.specs.Streams.{View, view_of, told, Holds, Next, one, end}
+use Rattle.stream.specs.Streams.{View, view_of, with_told, OutputHolds, Next, one, end}
 use Rattle.stream.specs.declared.interruption.Interruption.{Interruption}
 use Rattle.stream.specs.declared.interruption.Interruption.TheVariants.{Memory, Stream, Endless}
 use Rattle.player.specs.Outputs.{State, call_played, lines_of, lines_after}
-use Rattle.player.specs.Players.{Hears, heard, short, Prints, AllPrinted, Names, Stopped, Ends}
+use Rattle.player.specs.Players.{Hears, line_waits, short, Prints, AllPrinted, Names, Stopped, Ends}
 use Rattle.player.specs.Progress.{going?}
 use Rattle.player.specs.declared.driving.Player.{Player}
 use Rattle.player.specs.declared.progress.Progress.{Progress}
@@ -69,7 +69,7 @@ module _ {R W : Type 0} (remaining : R → Option (List ℕ)) (contents : W → 
 
   -- a line that was told is printed
   pub line_printed : (v v' : View R W) (kept? : Bool) (line : List ℕ) (lines : List (List ℕ) → List ℕ) (taken most : ℕ) (total : List ℕ)
-      → v' ≡ told kept? line v → kept? ≡ true
+      → v' ≡ with_told kept? line v → kept? ≡ true
       → Prints remaining contents v (λ events. line ++ lines events) taken most total → Prints remaining contents v' lines taken most total
   line_printed v v' kept? line lines taken most total e k p = record {
     events = p.events;
@@ -104,10 +104,10 @@ module _ {R W : Type 0} (remaining : R → Option (List ℕ)) (contents : W → 
     }
 
   -- what a writer holds that holds all
-  pub all_held : (v : View R W) (total : List ℕ) (output : W) → AllPrinted remaining contents v total → Holds contents (told true (rest_line v.unread) v) output → contents output ≡ Some total
+  pub all_held : (v : View R W) (total : List ℕ) (output : W) → AllPrinted remaining contents v total → OutputHolds contents (with_told true (rest_line v.unread) v) output → contents output ≡ Some total
   all_held v total output a h =
       let line = rest_line v.unread in
-      held remaining contents (told true line v) output a.events a.rest (a.out ++ line) h (line_told remaining contents v (told true line v) true line a.events a.rest a.out refl refl a.streams)
+      held remaining contents (with_told true line v) output a.events a.rest (a.out ++ line) h (line_told remaining contents v (with_told true line v) true line a.events a.rest a.out refl refl a.streams)
       ∙ ap (λ l. Some l) (ap (λ r. a.out ++ rest_line r) (sym a.ends.left_over) ∙ sym a.all)
 
   -- where a player stands in the midst of calls
@@ -136,12 +136,12 @@ module _ {R W : Type 0} (remaining : R → Option (List ℕ)) (contents : W → 
   -- a call that was heard: its line is printed, or want of memory interrupts the player
   was_heard : {p p' : Player R W} {e : Interaction flow_channel} (lines : List (List ℕ) → List ℕ) (taken most : ℕ) (total : List ℕ) → p.progress ≡ Going → Hears p p' e
       → Prints remaining contents (view_of p.stream) (λ events. line_of e.result ++ lines events) taken most total → Goes p'.progress (view_of p'.stream) lines taken most total
-  was_heard {p} {p'} {e} lines taken most total g (heard f k v) prints =
+  was_heard {p} {p'} {e} lines taken most total g (line_waits f k v) prints =
       rw (k ∙ g) (line_printed (view_of p.stream) (view_of p'.stream) true (line_of e.result) lines taken most total v refl prints)
   was_heard lines taken most total g (short f k n v) prints = rw k tt
 
   format_heard : {p p' : Player R W} {e : Interaction flow_channel} → Hears p p' e → p'.format ≡ p.format
-  format_heard (heard f k v) = f
+  format_heard (line_waits f k v) = f
   format_heard (short f k n v) = f
 
   -- what a player printed that drove a run

@@ -25,7 +25,7 @@ abbrev pub set_up_state : ℕ → List Record → State
 set_up_state supply records = record { supply = supply; records = records; pending = [] }
 
 -- an event that was played: its line, and the panel after it
-pub record Played : Type 0 where
+pub record EventPlayed : Type 0 where
   pub line : List ℕ
   pub after : State
 
@@ -39,19 +39,19 @@ abbrev pub set_up_line : List ℕ
 set_up_line = codes "set up" ++ line_feed ∷ []
 
 -- a call, by its one outcome
-abbrev pub call_played : State → Outcome flow_channel → Played
+abbrev pub call_played : State → Outcome flow_channel → EventPlayed
 call_played s o = record {
   line = line_of o.result;
   after = record s { records = o.rack; pending = o.pending };
 }
 
 -- a set-up again under a supply: taken, a new transmission begins; refused, the panel stays
-abbrev pub set_up_played : State → ℕ → Option ℕ → Played
+abbrev pub set_up_played : State → ℕ → Option ℕ → EventPlayed
 set_up_played s supply None = record { line = set_up_line; after = set_up_state supply s.records }
 set_up_played s supply (Some number) = record { line = refusal_line number; after = s }
 
 -- what an event asks for; one that asks for nothing is refused
-abbrev pub played : State → Result Asked ℕ → Played
+abbrev pub played : State → Result Asked ℕ → EventPlayed
 played s (Ok (calls c)) =
     call_played s (outcome flow_channel (capacity_of s.supply) s.records s.pending c)
 played s (Ok (pauses (Look place))) =

@@ -7,7 +7,7 @@ use Rattle.recording.specs.declared.events.Format.{Format}
 use Rattle.runs.specs.Channel.{flow_channel}
 use Rattle.runs.specs.Traces.{Call, Interaction}
 use Rattle.stream.specs.Interruptions.{countless, CanInterrupt}
-use Rattle.stream.specs.Streams.{View, view_of, told, Streams, AtEnd}
+use Rattle.stream.specs.Streams.{View, view_of, with_told, Streams, AtEnd}
 use Rattle.stream.specs.declared.interruption.Interruption.{Interruption}
 use Rattle.stream.specs.declared.interruption.Interruption.TheVariants.{Memory}
 use Rattle.player.specs.Outputs.{State, lines_of, lines_after}
@@ -16,17 +16,17 @@ use Rattle.player.specs.declared.driving.Player.{Player}
 use Rattle.player.specs.declared.progress.Progress.{Progress}
 use Rattle.player.specs.declared.progress.Progress.TheVariants.{Going, Waiting, Ended, Interrupted}
 
--- It was told a call with its result: the line of that waits to be written. Where memory is short for it, that interrupts the player,
--- and nothing else has changed.
+-- It was told a call with its result: the line of that waits to be written. Where memory is short for it, that
+-- interrupts the player, and nothing else has changed.
 pub data Hears {R W : Type 0} (p p' : Player R W) (e : Interaction flow_channel) : Type 0 where
-  heard : p'.format ≡ p.format → p'.progress ≡ p.progress
-      → view_of p'.stream ≡ told true (line_of e.result) (view_of p.stream) → Hears p p' e
+  line_waits : p'.format ≡ p.format → p'.progress ≡ p.progress
+      → view_of p'.stream ≡ with_told true (line_of e.result) (view_of p.stream) → Hears p p' e
   short : p'.format ≡ p.format → p'.progress ≡ Interrupted (Memory alloc_error)
       → (line_of e.result ≡ [] → ⊥) → view_of p'.stream ≡ view_of p.stream → Hears p p' e
 
 module _ {R W : Type 0} (remaining : R → Option (List ℕ)) (contents : W → Option (List ℕ)) where
-  -- What was printed, what the events to come print, and the line of the rest are this in all. With those that were taken the
-  -- events are at most so many.
+  -- What was printed, what the events to come print, and the line of the rest are this in all. With those that were
+  -- taken the events are at most so many.
   pub record Prints (v : View R W) (lines : List (List ℕ) → List ℕ) (taken most : ℕ) (total : List ℕ)
       : Type 0 where
     pub events : List (List ℕ)
@@ -53,8 +53,8 @@ module _ {R W : Type 0} (remaining : R → Option (List ℕ)) (contents : W → 
       (λ e. Prints v' (lines_after f s (Ok (asked_of e))) (suc taken) most total))
       (CanInterrupt most)
 
-  -- Going on, it named a call, of an event that it took: what is printed in all, on a panel in any state, is what that call prints
-  -- and the events after it.
+  -- Going on, it named a call, of an event that it took: what is printed in all, on a panel in any state, is what
+  -- that call prints and the events after it.
   pub record Names (p p' : Player R W) (c : Call flow_channel) : Type 0 where
     pub went : p.progress ≡ Going
     pub goes : p'.progress ≡ Going
@@ -63,8 +63,9 @@ module _ {R W : Type 0} (remaining : R → Option (List ℕ)) (contents : W → 
         → Prints (view_of p.stream) (lines_of p.format s) taken most total
         → Prints (view_of p'.stream) (lines_after p.format s (Ok (calls c))) (suc taken) most total
 
-  -- Where a player stands, by its progress, on a panel in some state: calls came to an end, though it goes on, only where there were
-  -- more of them than can be counted; it waits for what is done with the panel; it has printed all; or it was interrupted.
+  -- Where a player stands, by its progress, on a panel in some state: calls came to an end, though it goes on, only
+  -- where there were more of them than can be counted; it waits for what is done with the panel; it has printed all;
+  -- or it was interrupted.
   abbrev pub Stops : Progress → View R W → Format → State → ℕ → ℕ → List ℕ → Type 0
   Stops Going v f s taken most total = countless ≤ most
   Stops (Waiting pause) v f s taken most total =
@@ -75,8 +76,8 @@ module _ {R W : Type 0} (remaining : R → Option (List ℕ)) (contents : W → 
   abbrev pub Stopped : Player R W → State → ℕ → ℕ → List ℕ → Type 0
   Stopped p s taken most total = Stops p.progress (view_of p.stream) p.format s taken most total
 
-  -- It ended the run: at once, and the same as before, if it had stopped already; else it has stopped now, and has taken an event
-  -- more if it waits for something.
+  -- It ended the run: at once, and the same as before, if it had stopped already; else it has stopped now, and has
+  -- taken an event more if it waits for something.
   pub record Ends (p p' : Player R W) : Type 0 where
     pub same : going? p.progress ≡ false → p' ≡ p
     pub stopped : going? p'.progress ≡ false

@@ -24,7 +24,7 @@ use Rattle.runs.specs.Channel.{flow_channel}
 use Rattle.runs.specs.Histories.{pending_after}
 use Rattle.runs.specs.Traces.{Trace}
 use Rattle.setup.specs.SetUps.{set_up_refusal}
-use Rattle.stream.specs.Streams.{View, view_of, told}
+use Rattle.stream.specs.Streams.{View, view_of, with_told}
 use Rattle.player.specs.Outputs.{State, set_up_state, lines_of, lines_after}
 use Rattle.player.specs.Players.{Prints}
 use Rattle.player.specs.declared.driving.Player.{Player}
@@ -57,8 +57,8 @@ play_fault supply file =
     first_fault (file_answer most_channels file) (set_up_refusal supply (file_records file))
 
 module _ {Dr : Type 0} (D : drivers.Ghosts Dr) (d d' : Dr) (buffer buffer' : List ℕ) where
-  -- The run that was played: a panel over a rack of the records was set up, and worked by the driver, with a buffer. Of the trace
-  -- of these calls the whole promise holds.
+  -- The run that was played: a panel over a rack of the records was set up, and worked by the driver, with a buffer.
+  -- Of the trace of these calls the whole promise holds.
   pub record Played {X : Type 0} {G : Ghosts X} (supply : ℕ) (records : List Record) (panel : Panel X G)
       : Type 0 where
     pub trace : Trace flow_channel
@@ -112,7 +112,7 @@ module _ {R W : Type 0} (remaining : R → Option (List ℕ)) (contents : W → 
 
 -- the line of a refusal waits too
 abbrev pub with_refusal : {R W : Type 0} → Refusal → View R W → View R W
-with_refusal refusal v = told true (refusal_line (number_of refusal)) v
+with_refusal refusal v = with_told true (refusal_line (number_of refusal)) v
 
 -- the line of a fault that a recording is not played by
 abbrev pub fault_line : FileFault ⊎ ℕ → List ℕ

@@ -1,5 +1,5 @@
--- What is printed, in the words of runs: between one set-up that is taken and the next the lines are those of the results of a run for
--- which all is promised, with the lines of looks and of refused events in their places.
+-- What is printed, in the words of runs: between one set-up that is taken and the next the lines are those of the
+-- results of a run for which all is promised, with the lines of looks and of refused events in their places.
 use Rattle.std.specs.Prelude.{◌≡◌, ℕ, ◌⊎◌, List, [], ◌∷◌, ◌++◌, Some, None, Ok, Err, slice_get}
 use Rattle.header.specs.Shares.{capacity_of}
 use Rattle.rack.specs.Files.{file_records}
@@ -26,8 +26,8 @@ pub record Since (supply : ℕ) (before : List Record) (trace : Trace flow_chann
   pub ran : Run flow_channel (capacity_of supply) before [] trace records (pending_after flow_channel [] trace)
   pub promised : Promised supply before trace records (pending_after flow_channel [] trace)
 
--- The events to come, and their lines, where these calls were made since the last set-up that was taken: under this supply, of
--- these records. To the calls each call is added with its result; a set-up that is taken begins with none.
+-- The events to come, and their lines, where these calls were made since the last set-up that was taken: under this
+-- supply, of these records. To the calls each call is added with its result; a set-up that is taken begins with none.
 pub data Lines (f : Format) : ℕ → List Record → Trace flow_channel → List (List ℕ) → List ℕ → Type 0 where
   end : {supply : ℕ} {before records : List Record} {trace : Trace flow_channel}
       → Since supply before trace records → Lines f supply before trace [] []
@@ -59,8 +59,8 @@ pub data Lines (f : Format) : ℕ → List Record → Trace flow_channel → Lis
       → Lines f supply before trace events lines
       → Lines f supply before trace (event ∷ events) (refusal_line number ++ lines)
 
--- WHAT IS PRINTED, of a supply, a record file and a recording: one line where the file or the set-up is refused; else the lines of
--- the events since the set-up, and that of the rest.
+-- WHAT IS PRINTED, of a supply, a record file and a recording: one line where the file or the set-up is refused; else
+-- the lines of the events since the set-up, and that of the rest.
 pub data Printed (f : Format) (supply : ℕ) (file input : List ℕ) : List ℕ → Type 0 where
   refused : (fault : FileFault ⊎ ℕ) → play_fault supply file ≡ Some fault
       → Printed f supply file input (fault_line fault)

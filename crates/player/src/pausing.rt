@@ -2,7 +2,7 @@
 
 ghost use Rattle.std.specs.Prelude.{◌≡◌, IfOk, IfErr};
 ghost use Rattle.stream.specs.Interruptions.{CanInterrupt};
-ghost use Rattle.stream.specs.Streams.{view_of, with_rest, Holds};
+ghost use Rattle.stream.specs.Streams.{view_of, with_rest, OutputHolds};
 ghost use Rattle.player.specs.Playing.{with_refusal, Attends, LooksAt, SetsUp};
 
 use crate::driving::Player;
@@ -66,19 +66,19 @@ impl<R: Read + Drop, W: Write + Drop> Player<R, W> {
         Ok(())
     }
 
-    /// Prints the line of what is left of an event, and gives the writer back.
+    /// Prints the lines that wait and then that of what is left of an event, and gives the writer back.
     pub fn finish(self) -> Result<W, Interruption>
         ensures printed { IfOk result
-            (Holds W.Write.contents (with_rest (view_of self.stream))) }
+            (OutputHolds W.Write.contents (with_rest (view_of self.stream))) }
         ensures interrupted { IfErr result (CanInterrupt 0) }
     {
         self.stream.finish()
     }
 
-    /// Prints the line of a refusal by which no run began, and gives the writer back.
+    /// Prints the lines that wait and then that of a refusal by which no run began, and gives the writer back.
     pub fn refuse(mut self, refusal: Refusal) -> Result<W, Interruption>
         ensures printed { IfOk result
-            (Holds W.Write.contents (with_refusal refusal (view_of self.stream))) }
+            (OutputHolds W.Write.contents (with_refusal refusal (view_of self.stream))) }
         ensures interrupted { IfErr result (CanInterrupt 0) }
     {
         self.stream.tell(Err(refusal))?;

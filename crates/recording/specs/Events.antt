@@ -12,6 +12,7 @@ use Rattle.runs.specs.Channel.{flow_channel, sample, key}
 use Rattle.runs.specs.Traces as traces
 use Rattle.calls.specs.Views.{call_of}
 use Rattle.calls.specs.declared.Call as code
+use Rattle.recording.specs.Recordings.{event_length}
 use Rattle.recording.specs.declared.events.Event.{Event}
 use Rattle.recording.specs.declared.events.Event.TheVariants.{Call, Look as LookEvent, SetUp as SetUpEvent}
 use Rattle.recording.specs.declared.events.Format.{Format}
@@ -19,14 +20,36 @@ use Rattle.recording.specs.declared.events.Format.TheVariants.{Linerun, Supplyru
 use Rattle.recording.specs.declared.events.Pause.{Pause}
 use Rattle.recording.specs.declared.events.Pause.TheVariants.{Look, SetUp}
 
--- Bytes 4 to 7: the flow; 8 to 11: the temperature.
+-- the places in an event: its kind; what it is about, which is a channel, the byte of a character or the room of a
+-- gap; what is said of that, which is a character's marks or how a key is turned; and from byte 4 on two patterns of
+-- four bytes
+abbrev pub kind_place : ℕ
+kind_place = 0
+
+abbrev pub subject_place : ℕ
+subject_place = 1
+
+abbrev pub detail_place : ℕ
+detail_place = 2
+
+-- nothing stands in byte 3
+abbrev pub blank_place : ℕ
+blank_place = 3
+
+abbrev pub first_pattern : ℕ
+first_pattern = 4
+
+abbrev pub second_pattern : ℕ
+second_pattern = 8
+
+-- the first pattern: the flow; the second: the temperature
 abbrev pub reading_in : List ℕ → Reading
 reading_in event = record {
-  flow = value_of (number32 event 4);
-  temperature = value_of (number32 event 8);
+  flow = value_of (number32 event first_pattern);
+  temperature = value_of (number32 event second_pattern);
 }
 
--- the kind of an event, byte 0
+-- the kinds of events
 abbrev pub character_kind : ℕ
 character_kind = 1
 
@@ -50,7 +73,20 @@ abbrev pub set_up_kind : ℕ
 set_up_kind = 7
 
 abbrev pub kind_of : List ℕ → ℕ
-kind_of event = slice_index event 0
+kind_of event = slice_index event kind_place
+
+abbrev pub subject_of : List ℕ → ℕ
+subject_of event = slice_index event subject_place
+
+abbrev pub detail_of : List ℕ → ℕ
+detail_of event = slice_index event detail_place
+
+-- what is not used is 0: to the end of an event, from this place on, or to its patterns
+abbrev pub blank_from? : ℕ → List ℕ → Bool
+blank_from? place event = zeros? (between place event_length event)
+
+abbrev pub blank_to_patterns? : ℕ → List ℕ → Bool
+blank_to_patterns? place event = zeros? (between place first_pattern event)
 
 -- What an event in form asks for; 110 where it is not.
 abbrev pub in_form : {X : Type 0} → Bool → X → Result X ℕ
@@ -59,31 +95,31 @@ in_form formed? x = if formed? then Ok x else Err out_of_form
 -- what each kind asks for: a character, of byte and marks; a gap; a sample and a key turn, of a channel
 abbrev pub character_call : List ℕ → traces.Call flow_channel
 character_call event =
-    traces.character (record { byte = slice_index event 1; marks = slice_index event 2 })
+    traces.character (record { byte = subject_of event; marks = detail_of event })
 
 abbrev pub gap_call : traces.Call flow_channel
 gap_call = traces.gap answer_room
 
 abbrev pub sample_call : List ℕ → traces.Call flow_channel
-sample_call event = traces.local (slice_index event 1) (sample (reading_in event))
+sample_call event = traces.local (subject_of event) (sample (reading_in event))
 
 abbrev pub key_call : List ℕ → traces.Call flow_channel
-key_call event = traces.local (slice_index event 1) (key (slice_index event 2 == 1))
+key_call event = traces.local (subject_of event) (key (detail_of event == 1))
 
 -- whether a key turn says to open or to shut
 abbrev pub key_byte? : List ℕ → Bool
-key_byte? event = nat_le (slice_index event 2) 1
+key_byte? event = nat_le (detail_of event) 1
 
 -- by its kind; what is not used is 0
 abbrev pub event_call : List ℕ → Result (traces.Call flow_channel) ℕ
 event_call event =
     if kind_of event == character_kind then
-    in_form (zeros? (between 3 12 event)) (character_call event)
-    else if kind_of event == gap_kind then in_form (zeros? (between 1 12 event)) gap_call
+    in_form (blank_from? blank_place event) (character_call event)
+    else if kind_of event == gap_kind then in_form (blank_from? subject_place event) gap_call
     else if kind_of event == sample_kind then
-    in_form (zeros? (between 2 4 event)) (sample_call event)
+    in_form (blank_to_patterns? detail_place event) (sample_call event)
     else if kind_of event == key_kind then
-    in_form (key_byte? event && zeros? (between 3 12 event)) (key_call event)
+    in_form (key_byte? event && blank_from? blank_place event) (key_call event)
     else Err out_of_form
 
 -- what the decoder answers: a call, or the number of a refusal
@@ -98,21 +134,21 @@ pub data Asked : Type 0 where
 
 -- a gap of some room; a look at a channel; a set-up under the supply in bytes 4 to 7
 abbrev pub room_asked : List ℕ → Asked
-room_asked event = calls (traces.gap (slice_index event 1))
+room_asked event = calls (traces.gap (subject_of event))
 
 abbrev pub look_asked : List ℕ → Asked
-look_asked event = pauses (Look (slice_index event 1))
+look_asked event = pauses (Look (subject_of event))
 
 abbrev pub set_up_asked : List ℕ → Asked
-set_up_asked event = pauses (SetUp (number32 event 4))
+set_up_asked event = pauses (SetUp (number32 event first_pattern))
 
 -- by its kind; what is not used is 0
 abbrev pub own_asks : List ℕ → Result Asked ℕ
 own_asks event =
-    if kind_of event == room_kind then in_form (zeros? (between 2 12 event)) (room_asked event)
-    else if kind_of event == look_kind then in_form (zeros? (between 2 12 event)) (look_asked event)
+    if kind_of event == room_kind then in_form (blank_from? detail_place event) (room_asked event)
+    else if kind_of event == look_kind then in_form (blank_from? detail_place event) (look_asked event)
     else if kind_of event == set_up_kind then
-    in_form (zeros? (between 1 4 event) && zeros? (between 8 12 event)) (set_up_asked event)
+    in_form (blank_to_patterns? subject_place event && blank_from? second_pattern event) (set_up_asked event)
     else Err out_of_form
 
 -- a call, or what is asked where it is none

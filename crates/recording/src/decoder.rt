@@ -10,6 +10,7 @@ use line::ANSWER_ROOM;
 use record::{Reading, value_of};
 use refusals::Refusal;
 
+/// How many bytes each event of a recording has.
 pub const EVENT_LENGTH: usize = 12;
 
 /// The call of an event, by its kind in byte 0 (docs/PLAYING.md). Of the last eight bytes, the patterns of flow and temperature in a

@@ -13,8 +13,8 @@ words_of (Stream kind) = None
 abbrev pub countless : ℕ
 countless = 2 ^ 64 - 1
 
--- What can interrupt a recording of at most so many events: their number only where they may be 2 ^ 64 - 1 or more, so that of 0
--- events it never does.
+-- What can interrupt a recording of at most so many events: their number only where they may be 2 ^ 64 - 1 or more,
+-- so that of 0 events it never does.
 abbrev pub CanInterrupt : ℕ → Interruption → Type 0
 CanInterrupt most Endless = countless ≤ most
 CanInterrupt most (Memory e) = ⊤

@@ -9,15 +9,16 @@ use Rattle.recording.specs.Recordings.{event_length, events_of, rest_of}
 abbrev pub unread_of : {R W : Type 0} → EventStream R W → List ℕ
 unread_of s = drop s.unread.start (take s.unread.end s.block)
 
--- whether a whole event, of 12 bytes, came and was not taken yet
+-- a whole event, of 12 bytes, came and was not taken yet
 abbrev pub WholeEvent : {R W : Type 0} → EventStream R W → Type 0
 WholeEvent s = event_length ≤ length (unread_of s)
 
+-- of the next event at most a part came
 abbrev pub NoWholeEvent : {R W : Type 0} → EventStream R W → Type 0
 NoWholeEvent s = length (unread_of s) < event_length
 
--- What of a stream its owner can tell: its reader and its writer, the bytes that came and were not taken yet, and the lines that
--- wait to be written.
+-- What of a stream its owner can tell: its reader and its writer, the bytes that came and were not taken yet, and the
+-- lines that wait to be written.
 pub record View (R W : Type 0) : Type 0 where
   pub input : R
   pub output : W
@@ -37,12 +38,12 @@ abbrev pub begun : {R W : Type 0} → R → W → View R W
 begun input output = record { input = input; output = output; unread = []; lines = [] }
 
 -- a line more waits, if there was memory for it
-abbrev pub told : {R W : Type 0} → Bool → List ℕ → View R W → View R W
-told kept? line v = record v { lines = with_line kept? line v.lines }
+abbrev pub with_told : {R W : Type 0} → Bool → List ℕ → View R W → View R W
+with_told kept? line v = record v { lines = with_line kept? line v.lines }
 
 -- the line of what is left of an event waits too, if something is left
 abbrev pub with_rest : {R W : Type 0} → View R W → View R W
-with_rest v = told true (rest_line v.unread) v
+with_rest v = with_told true (rest_line v.unread) v
 
 -- an event was taken, of those that came
 abbrev pub after_event : {R W : Type 0} → View R W → View R W
@@ -56,19 +57,19 @@ pub record TakesWhole {R W : Type 0} (v v' : View R W)
 
 module _ {R W : Type 0} (contents : W → Option (List ℕ)) where
   -- a writer holds all that was written, and the lines that waited
-  abbrev pub Holds : View R W → W → Type 0
-  Holds v output = (written : List ℕ) → contents v.output ≡ Some written
+  abbrev pub OutputHolds : View R W → W → Type 0
+  OutputHolds v output = (written : List ℕ) → contents v.output ≡ Some written
       → contents output ≡ Some (written ++ v.lines)
 
   -- the lines that waited were written
-  pub record Written (v v' : View R W) : Type 0 where
-    pub holds : Holds v v'.output
+  pub record WrittenOut (v v' : View R W) : Type 0 where
+    pub holds : OutputHolds v v'.output
     pub none_wait : v'.lines ≡ []
 
   -- Nothing is read before the lines that waited are written.
   pub data WrittenFirst (v v' : View R W) : Type 0 where
     unread : v'.input ≡ v.input → v'.lines ≡ v.lines → WrittenFirst v v'
-    written : Written v v' → WrittenFirst v v'
+    written : WrittenOut v v' → WrittenFirst v v'
 
 -- No byte is lost: those that came and were not taken, and then those that the reader has left, are what they were.
 abbrev pub NoneLost : {R W : Type 0} → (R → Option (List ℕ)) → View R W → View R W → Type 0

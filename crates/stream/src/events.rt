@@ -1,6 +1,8 @@
 //! A recording that is read by blocks.
 
 ghost use Rattle.std.specs.Prelude.{◌≡◌, ◌%◌, ◌≤◌, length};
+ghost use Rattle.recording.specs.Recordings.{event_length};
+ghost use Rattle.stream.specs.Blocks.{block_length};
 
 use recording::EVENT_LENGTH;
 use std::ops::Range;
@@ -17,8 +19,8 @@ pub struct EventStream<R: Drop, W: Drop> {
     /// Where the bytes of the block stand that came and were not taken yet. Events begin at multiples of their length.
     pub(crate) unread: Range<usize>,
     pub(crate) lines: Vec<u8>,
-    ghost size: { length block ≡ 65532 },
-    ghost aligned: { unread.start % 12 ≡ 0 },
+    ghost size: { length block ≡ block_length },
+    ghost aligned: { unread.start % event_length ≡ 0 },
     ghost ordered: { unread.start ≤ unread.end },
-    ghost within: { unread.end ≤ 65532 },
+    ghost within: { unread.end ≤ block_length },
 }

@@ -5,8 +5,9 @@ ghost use Rattle.std.specs.Option.{option_to_list};
 ghost use Rattle.std.specs.Vec.{vec_allocator};
 ghost use Rattle.calls.specs.Views.{result_of};
 ghost use Rattle.recording.specs.Lines.{line_of};
+ghost use Rattle.stream.specs.Blocks.{block_length};
 ghost use Rattle.stream.specs.Interruptions.{OfStream, Finishes};
-ghost use Rattle.stream.specs.Streams.{unread_of, WholeEvent, NoWholeEvent, view_of, begun, told, with_rest, TakesWhole, Holds, Written, WrittenFirst, NoneLost, Gives, TakesNext, ReadOn};
+ghost use Rattle.stream.specs.Streams.{unread_of, WholeEvent, NoWholeEvent, view_of, begun, with_told, with_rest, TakesWhole, OutputHolds, WrittenOut, WrittenFirst, NoneLost, Gives, TakesNext, ReadOn};
 
 use crate::events::{BLOCK_LENGTH, EventStream};
 use crate::interruption::Interruption;
@@ -96,7 +97,7 @@ impl<R: Read + Drop, W: Write + Drop> EventStream<R, W> {
             (ReadOn R.Read.remaining W.Write.contents (view_of self.old) (view_of self.new)) }
         ensures first { WrittenFirst W.Write.contents (view_of self.old) (view_of self.new) }
         ensures written { OnOk result
-            (Written W.Write.contents (view_of self.old) (view_of self.new)) }
+            (WrittenOut W.Write.contents (view_of self.old) (view_of self.new)) }
         ensures quiet { self.old.lines.items ≡ [] → self.new.output ≡ self.old.output }
         ensures kept { NoWholeEvent self.old
             → NoneLost R.Read.remaining (view_of self.old) (view_of self.new) }
@@ -112,7 +113,7 @@ impl<R: Read + Drop, W: Write + Drop> EventStream<R, W> {
     // Begins the block anew where it is full: no event is cut at its end, so that all of it was taken.
     fn make_room(&mut self)
         ensures unread { NoWholeEvent self.old → unread_of self.new ≡ unread_of self.old }
-        ensures room { self.new.unread.end < 65532 }
+        ensures room { self.new.unread.end < block_length }
         ensures input { self.new.input ≡ self.old.input }
         ensures output { self.new.output ≡ self.old.output }
         ensures lines { self.new.lines ≡ self.old.lines }
@@ -126,7 +127,7 @@ impl<R: Read + Drop, W: Write + Drop> EventStream<R, W> {
     // its owner.
     fn write_out(&mut self) -> io::Result<()>
         ensures written { OnOk result
-            (Written W.Write.contents (view_of self.old) (view_of self.new)) }
+            (WrittenOut W.Write.contents (view_of self.old) (view_of self.new)) }
         ensures waiting { OnErr result (self.new.lines ≡ self.old.lines) }
         ensures quiet { self.old.lines.items ≡ []
             → IsOk result × (self.new.output ≡ self.old.output) }
@@ -145,7 +146,7 @@ impl<R: Read + Drop, W: Write + Drop> EventStream<R, W> {
     #[inline(always)]
     pub fn tell(&mut self, response: Result<Response<'_>, Refusal>) -> Result<(), AllocError>
         ensures told { view_of self.new
-            ≡ told (is_ok result) (line_of (result_of response.entry)) (view_of self.old) }
+            ≡ with_told (is_ok result) (line_of (result_of response.entry)) (view_of self.old) }
         ensures free { line_of (result_of response.entry) ≡ [] → IsOk result }
     {
         push_line(&mut self.lines, response)
@@ -153,14 +154,14 @@ impl<R: Read + Drop, W: Write + Drop> EventStream<R, W> {
 
     /// A line of another kind, in the same way.
     pub fn print(&mut self, line: &[u8]) -> Result<(), AllocError>
-        ensures { view_of self.new ≡ told (is_ok result) line.now (view_of self.old) }
+        ensures { view_of self.new ≡ with_told (is_ok result) line.now (view_of self.old) }
     {
         self.lines.extend_from_slice(line)
     }
 
     /// Writes out what waits, and gives the writer back.
     pub fn close(mut self) -> Result<W, Interruption>
-        ensures written { IfOk result (Holds W.Write.contents (view_of self)) }
+        ensures written { IfOk result (OutputHolds W.Write.contents (view_of self)) }
         ensures quiet { self.lines.items ≡ [] → result ≡ Ok self.output }
         ensures interrupted { IfErr result OfStream }
     {
@@ -172,7 +173,7 @@ impl<R: Read + Drop, W: Write + Drop> EventStream<R, W> {
 
     /// Closes a stream: what came and was not taken, of an event that is not whole, counts as a file of a wrong length.
     pub fn finish(mut self) -> Result<W, Interruption>
-        ensures written { IfOk result (Holds W.Write.contents (with_rest (view_of self))) }
+        ensures written { IfOk result (OutputHolds W.Write.contents (with_rest (view_of self))) }
         ensures quiet { unread_of self ≡ [] → self.lines.items ≡ [] → result ≡ Ok self.output }
         ensures interrupted { IfErr result (Finishes (unread_of self)) }
     {

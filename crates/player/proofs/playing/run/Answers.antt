@@ -8,7 +8,7 @@ use Rattle.refusals.specs.Refusals.{number_of}
 use Rattle.runs.specs.Channel.{flow_channel}
 use Rattle.runs.specs.Histories.{pending_after}
 use Rattle.stream.proofs.Views.{begins, line_told, held}
-use Rattle.stream.specs.Streams.{View, view_of, told}
+use Rattle.stream.specs.Streams.{View, view_of, with_told}
 use Rattle.player.specs.Outputs.{State, set_up_state, lines_of, lines_after}
 use Rattle.player.specs.Players.{Prints, AllPrinted}
 use Rattle.player.specs.Playing.{most_room, output_of}
@@ -24,9 +24,9 @@ returns-in-Err-clause-printed g c = λ bytes out e f.
     let line = refusal_line (number_of c.refusal.result) in
     let begun : View g.row.R.Denot g.row.W.Denot = view_of c.play.new.driver.stream in
     let streams = begins g.R.Read.remaining g.W.Write.contents begun c.args.input c.args.output bytes out (ap (λ (p : Player g.row.R.Denot g.row.W.Denot). view_of p.stream) (c.in-Err.ensures.unasked refl) ∙ c.new-player.ensures.stream) e f in
-    let told' = line_told g.R.Read.remaining g.W.Write.contents begun (told true line begun) true line (events_of bytes) (rest_of bytes) out refl refl streams in
+    let told' = line_told g.R.Read.remaining g.W.Write.contents begun (with_told true line begun) true line (events_of bytes) (rest_of bytes) out refl refl streams in
     both (length (events_of bytes)) c.refuse.result _
-    (rw (← c.in-Err.ensures.fault, fault_told c.in-Err.fault, ← c.refusal.ensures) (if_ok c.refuse.result _ _ (λ w h. held g.R.Read.remaining g.W.Write.contents (told true line begun) w (events_of bytes) (rest_of bytes) (out ++ line) h told') c.refuse.ensures.printed))
+    (rw (← c.in-Err.ensures.fault, fault_told c.in-Err.fault, ← c.refusal.ensures) (if_ok c.refuse.result _ _ (λ w h. held g.R.Read.remaining g.W.Write.contents (with_told true line begun) w (events_of bytes) (rest_of bytes) (out ++ line) h told') c.refuse.ensures.printed))
     c.refuse.ensures.interrupted
 
 pub returns-in-Err-clause-promised : goal.returns-in-Err-clause-promised

@@ -5,7 +5,7 @@ use Rattle.line.specs.Characters.{Reception}
 use Rattle.line.specs.Views.{reception}
 use Rattle.serving.specs.Serving.{Lawfully, answering_in, served}
 use Rattle.panel.specs.Panels.{records_in}
-use Rattle.panel.proofs.Gaps.{count_after}
+use Rattle.panel.proofs.Gaps.{count_after, pending_lawful}
 use Rattle.panel.proofs.Panels.{few_after}
 use Rattle.panel.proofs.Results.{gap_ended, gap_failed, gap_same}
 use Rattle.panel.proofs.Working.{goes_on}
@@ -24,7 +24,7 @@ returns g c =
       writes = k.writes;
       tells = k.tells;
       idle = k.idle;
-      law = subst (λ (y : Option Reception). Lawfully y (answering_in (served p.supply (records_in p) y c.args.out.now))) c.received.ensures.value c.in_ok-answer.ensures.law;
+      law = pending_lawful p.supply (records_in p) p.receiver c.args.out.now (subst (λ (y : Option Reception). Lawfully y (answering_in (served p.supply (records_in p) y c.args.out.now))) c.received.ensures.value c.in_ok-answer.ensures.law);
       same = λ e. absurd (cc);
     }
 
@@ -48,6 +48,6 @@ returns-in_err-answer g c =
       writes = k.writes;
       tells = k.tells;
       idle = k.idle;
-      law = subst (λ (y : Option Reception). Lawfully y (answering_in (served p.supply (records_in p) y c.args.out.now))) c.received.ensures.value c.in_err-answer.ensures.law;
+      law = pending_lawful p.supply (records_in p) p.receiver c.args.out.now (subst (λ (y : Option Reception). Lawfully y (answering_in (served p.supply (records_in p) y c.args.out.now))) c.received.ensures.value c.in_err-answer.ensures.law);
       same = λ _. gap_same p c.serve.new.rack _ c.args.out.now c.serve.new.out x c.received.ensures.value d c.in_err-answer.ensures.serves;
     }

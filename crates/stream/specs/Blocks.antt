@@ -1,0 +1,6 @@
+-- How a recording is read by blocks.
+use Rattle.std.specs.Prelude.{ℕ}
+
+-- the bytes that a block has room for: 5,461 whole events, as many as 64 KiB hold
+abbrev pub block_length : ℕ
+block_length = 65532
