@@ -23,5 +23,8 @@ lowered_lawful p r h = record {
   text = h.text;
 }
 
-pub all_lowered : (p : ℕ) (records : List Record) → AllByRecursion Lawful records → AllByRecursion Lawful (lowered_all p records)
-all_lowered p records h = All-map Lawful (lowered p) records (All-weaker Lawful (λ r. Lawful (lowered p r)) (lowered_lawful p) records h)
+pub all_lowered : (p : ℕ) (records : List Record)
+    → AllByRecursion Lawful records → AllByRecursion Lawful (lowered_all p records)
+all_lowered p records h =
+    All-map Lawful (lowered p) records
+    (All-weaker Lawful (λ r. Lawful (lowered p r)) (lowered_lawful p) records h)

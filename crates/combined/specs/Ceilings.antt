@@ -27,7 +27,8 @@ answer_under percent records channel edit =
 
 -- The number by which a ceiling turns a write away: only a setpoint's, which then does not reach the rack below.
 abbrev pub turned_away : ℕ → List Record → ℕ → Edit → Option ℕ
-turned_away percent records channel (setpoint pattern) = result_err (answer_under percent records channel (setpoint pattern))
+turned_away percent records channel (setpoint pattern) =
+    result_err (answer_under percent records channel (setpoint pattern))
 turned_away percent records channel edit = None
 
 -- Where a ceiling turns a write away, the rack below is the same value; any other write goes through it, once.

@@ -8,8 +8,7 @@ use Rattle.frame.specs.declared.Transmission.{Transmission}
 use Rattle.frame.specs.Frames.{Parts, RequestFrame, StartFrame, request_frame, start_frame, short_request, long_request}
 use Rattle.frame.specs.Making.{MadeAgain}
 use Rattle.frame.specs.Check.{check_of}
-use Rattle.frame.specs.Transmissions.{Request, Sent, preambles_of, span_of, request_of, read_request}
-use Rattle.frame.specs.Reading.{sent_span, read_sent}
+use Rattle.frame.specs.Transmissions.{Request, Sent, preambles_of, span_of, request_of, sent_span, read_sent, read_request}
 use Rattle.frame.specs.Views.{frame_parts, request_parts, viewed}
 use Rattle.frame.proofs.Frames.{read_request_lem, request_read, request_limit}
 use Rattle.frame.proofs.Transmissions.{complete_sent, reads_sent, made_again}

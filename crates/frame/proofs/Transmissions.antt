@@ -8,8 +8,7 @@ use Rattle.std.proofs.lemmas.Bool.Decides.{nat_tests}
 use Rattle.std.proofs.ByRecursion.{All-drop}
 use Rattle.frame.specs.Check.{check_of}
 use Rattle.frame.specs.Frames.{Parts, Framed, StartFrame, start_frame, short_request, long_request}
-use Rattle.frame.specs.Transmissions.{preambles_of, span_of, parts_with, Request, Sent, Transmits, request_of, read_request}
-use Rattle.frame.specs.Reading.{sent_span, read_sent}
+use Rattle.frame.specs.Transmissions.{preambles_of, span_of, parts_with, Request, Sent, Transmits, request_of, sent_span, read_sent, read_request}
 use Rattle.frame.specs.Making.{request?, start_for, checked, frame_bytes, sent, transmission, MadeAgain}
 use Rattle.std.specs.List.{AllByRecursion}
 use Rattle.frame.proofs.Frames.{start_read, read_start, data_limit}

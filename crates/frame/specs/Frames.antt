@@ -53,13 +53,18 @@ RequestFrame = StartFrame short_request long_request
 abbrev pub ReplyFrame : List ℕ → Parts → Type 0
 ReplyFrame = StartFrame short_reply long_reply
 
--- the frame of an address and of what follows it: command, count, data and check; 110 unless its length is the one that the
--- count tells
+-- the frame of an address and of what follows it: command, count, data and check; 110 unless its length is the
+-- one that the count tells
 abbrev pub frame_after : List ℕ → List ℕ → Result Parts ℕ
 frame_after address rest =
     let count = slice_index rest 1 in
     if nat_le 3 (length rest) && length rest == 3 + count
-    then Ok (record { address = address; command = slice_index rest 0; «data» = take count (drop 2 rest); check = slice_index rest (2 + count) })
+    then Ok (record {
+      address = address;
+      command = slice_index rest 0;
+      «data» = take count (drop 2 rest);
+      check = slice_index rest (2 + count);
+    })
     else Err (number_of OutOfForm)
 
 -- a frame read with an address of w bytes

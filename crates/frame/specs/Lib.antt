@@ -3,4 +3,3 @@ pub mod Frames
 pub mod Transmissions
 pub mod Making
 pub mod Views
-pub mod Reading

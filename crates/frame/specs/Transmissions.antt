@@ -4,7 +4,7 @@ use Rattle.std.specs.List.{prefix_len}
 use Rattle.refusals.specs.Refusals.{number_of}
 use Rattle.refusals.specs.declared.Refusal.TheVariants.{OutOfForm}
 use Rattle.frame.specs.Check.{check_of}
-use Rattle.frame.specs.Frames.{Parts, RequestFrame, ReplyFrame, request_frame}
+use Rattle.frame.specs.Frames.{Parts, RequestFrame, ReplyFrame, start_frame, short_request, long_request, short_reply, long_reply}
 
 -- every preamble is this byte, and no start byte is
 abbrev pub preamble : ℕ
@@ -36,8 +36,8 @@ pub record Request : Type 0 where
 abbrev pub parts_with : Request → ℕ → Parts
 parts_with q check = record { address = q.address; command = q.command; «data» = q.«data»; check = check }
 
--- The bytes are a sound transmission of these parts: as many preambles, at least two, and then a frame of this kind whose
--- exclusive or from start to check is 0.
+-- The bytes are a sound transmission of these parts: as many preambles, at least two, and then a frame of this kind
+-- whose exclusive or from start to check is 0.
 pub record Sent (Kind : List ℕ → Parts → Type 0) (q : Request) (bytes : List ℕ) : Type 0 where
   pub span : List ℕ
   pub check : ℕ
@@ -54,17 +54,24 @@ Transmits = Sent RequestFrame
 abbrev pub Replies : Request → List ℕ → Type 0
 Replies = Sent ReplyFrame
 
--- a frame behind n preambles, seen as a request
+-- a frame behind n preambles, seen as the parts of its transmission
 abbrev pub request_of : ℕ → Result Parts ℕ → Result Request ℕ
 request_of n (Ok f) = Ok (record { preambles = n; address = f.address; command = f.command; «data» = f.«data» })
 request_of n (Err e) = Err e
 
-abbrev pub read_span : ℕ → List ℕ → Result Request ℕ
-read_span n span =
+-- a span behind n preambles, by the two start bytes of its kind of frame
+abbrev pub sent_span : ℕ → ℕ → ℕ → List ℕ → Result Request ℕ
+sent_span short long n span =
     if nat_le fewest_preambles n && check_of span == 0
-    then request_of n (request_frame span)
+    then request_of n (start_frame short long span)
     else Err (number_of OutOfForm)
 
--- a request read from bytes, 110 where they are no sound transmission
+-- a transmission read from bytes, 110 where they are no sound one
+abbrev pub read_sent : ℕ → ℕ → List ℕ → Result Request ℕ
+read_sent short long bytes = sent_span short long (preambles_of bytes) (span_of bytes)
+
 abbrev pub read_request : List ℕ → Result Request ℕ
-read_request bytes = read_span (preambles_of bytes) (span_of bytes)
+read_request = read_sent short_request long_request
+
+abbrev pub read_reply : List ℕ → Result Request ℕ
+read_reply = read_sent short_reply long_reply

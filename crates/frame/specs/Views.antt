@@ -14,7 +14,7 @@ use Rattle.frame.specs.declared.Master.{Master}
 use Rattle.frame.specs.declared.Master.TheVariants.{Secondary, Primary}
 use Rattle.frame.specs.Frames.{short_width, long_width, most_data, Parts, StartFrame, RequestFrame}
 use Rattle.frame.specs.Making.{asked, frame_bytes, request?, sent, MadeAgain}
-use Rattle.frame.specs.Transmissions.{most_preambles, Request, Sent, Transmits}
+use Rattle.frame.specs.Transmissions.{most_preambles, Request, Sent, Transmits, Replies}
 
 -- bit 7 of the first address byte
 abbrev pub master_bit : Master → ℕ
@@ -62,14 +62,19 @@ abbrev pub viewed : {X Y : Type 0} → (X → Y) → Result X Refusal → Result
 viewed view (Ok x) = Ok (view x)
 viewed view (Err e) = Err (number_of e)
 
--- Both directions: what was read is in the relation, and where nothing was, nothing is.
+-- Both directions: what was read, seen so, is in the relation, and where nothing was, nothing is.
+abbrev pub Means : {X Y : Type 0} → (X → Y) → (Y → List ℕ → Type 0) → Result X Refusal → List ℕ → Type 0
+Means {X} {Y} view Is result bytes =
+    MatchResult result (λ x. Is (view x) bytes) (λ _. (y : Y) → Is y bytes → ⊥)
+
 abbrev pub FrameMeans : Result Frame Refusal → List ℕ → Type 0
-FrameMeans result span =
-    MatchResult result (λ f. RequestFrame span (frame_parts f)) (λ _. (p : Parts) → RequestFrame span p → ⊥)
+FrameMeans = Means frame_parts (λ parts span. RequestFrame span parts)
 
 abbrev pub RequestMeans : Result Transmission Refusal → List ℕ → Type 0
-RequestMeans result bytes =
-    MatchResult result (λ t. Transmits (request_parts t) bytes) (λ _. (q : Request) → Transmits q bytes → ⊥)
+RequestMeans = Means request_parts Transmits
+
+abbrev pub ReplyMeans : Result Transmission Refusal → List ℕ → Type 0
+ReplyMeans = Means request_parts Replies
 
 -- what was read is sent as the same bytes, unless it has more preambles than are sent
 abbrev pub SentAgain : Result Transmission Refusal → List ℕ → Type 0

@@ -2,9 +2,8 @@
 
 ghost use Rattle.std.specs.Prelude.{◌≡◌, ◌≤◌, length, OnOk};
 ghost use Rattle.frame.specs.Frames.{request_frame, start_frame, frame_after, longest_frame};
-ghost use Rattle.frame.specs.Reading.{read_sent, read_reply, ReplyMeans};
-ghost use Rattle.frame.specs.Transmissions.{preambles_of, read_request};
-ghost use Rattle.frame.specs.Views.{address_bytes, frame_parts, request_parts, viewed, FrameMeans, RequestMeans, SentAgain};
+ghost use Rattle.frame.specs.Transmissions.{preambles_of, read_sent, read_request, read_reply};
+ghost use Rattle.frame.specs.Views.{address_bytes, frame_parts, request_parts, viewed, FrameMeans, RequestMeans, ReplyMeans, SentAgain};
 
 use crate::{
     Address, Frame, MIN_PREAMBLES, PREAMBLE, REPLY, REQUEST, StartBytes, Transmission, check,

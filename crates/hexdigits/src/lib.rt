@@ -11,7 +11,7 @@ use std::alloc::{AllocError, AllocFailed, Global};
 use std::error::Error;
 use std::fmt;
 
-// How many bytes are printed at once: as many as an answer has at most.
+// How many bytes are printed at once: the room that an answer is given, so that each answer is one part.
 const PART_LENGTH: usize = 64;
 
 const PART_DIGITS: usize = 2 * PART_LENGTH;

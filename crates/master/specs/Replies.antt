@@ -2,7 +2,7 @@
 use Rattle.std.specs.Prelude.{ℕ, if◌then◌else◌, List, [], ◌∷◌, length, drop, Some, None, Option, ◌==◌, nat_le, slice_index}
 use Rattle.std.specs.Option.{option_and_then}
 use Rattle.std.specs.Result.{result_ok}
-use Rattle.frame.specs.Reading.{read_reply}
+use Rattle.frame.specs.Transmissions.{read_reply}
 use Rattle.record.specs.Bytes.{number32}
 
 -- what a reply carries begins with this many status bytes

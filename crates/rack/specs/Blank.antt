@@ -2,7 +2,7 @@
 use Rattle.std.specs.Prelude.{false, replicate}
 use Rattle.setpoint.specs.Value.{value_of}
 use Rattle.record.specs.declared.Record.{Record}
-use Rattle.record.specs.Numbers.{least_preambles, text_length}
+use Rattle.record.specs.Numbers.{least_reply_preambles, text_length}
 
 -- everything at 0 but what cannot be: two preambles, a full scale of 1 mL/min
 abbrev pub blank_record : Record
@@ -11,7 +11,7 @@ blank_record = record {
     device_type = 0;
     identification = 0;
     polling_address = 0;
-    preambles = least_preambles;
+    preambles = least_reply_preambles;
     assembly_number = 0;
     changed = false;
     key_open = false;

@@ -7,7 +7,7 @@ use Rattle.setpoint.specs.Value.{value_of}
 use Rattle.setpoint.specs.declared.SetpointRefusal.{SetpointRefusal}
 use Rattle.record.specs.declared.Fields.{Fields}
 use Rattle.record.specs.declared.Record.{Record}
-use Rattle.record.specs.Numbers.{most_polling_address, least_preambles, most_preambles, end_of_24_bits, text_length}
+use Rattle.record.specs.Numbers.{most_polling_address, least_reply_preambles, most_reply_preambles, end_of_24_bits, text_length}
 use Rattle.record.specs.Readings.{finite?}
 use Rattle.rack.specs.Edits.{Edit, polling_address, preambles, assembly_number, changed, key, sample, text, setpoint}
 use Rattle.rack.specs.Refusals.{invalid_selection, too_large, too_small, no_reading, out_of_form}
@@ -33,8 +33,8 @@ setpoint_refusal (Err e) = Some (code_of e)
 abbrev pub refused_by : Edit → Fields → Option ℕ
 refused_by (polling_address address) f = if nat_le address most_polling_address then None else Some invalid_selection
 refused_by (preambles count) f =
-    if nat_lt count least_preambles then Some too_small
-    else if nat_lt most_preambles count then Some too_large
+    if nat_lt count least_reply_preambles then Some too_small
+    else if nat_lt most_reply_preambles count then Some too_large
     else None
 refused_by (assembly_number number) f = if nat_lt number end_of_24_bits then None else Some too_large
 refused_by (changed on) f = None

@@ -35,7 +35,7 @@ fault_in number (Some fault) rest = Some (record { number = number; fault = faul
 fault_in number None rest = rest
 
 -- What an error says of a row: its number, and its first field out of range.
-pub record Names (number : ℕ) (row : List ℕ) (e : RecordError) : Type 0 where
+pub record Reports (number : ℕ) (row : List ℕ) (e : RecordError) : Type 0 where
   pub numbers : e.number ≡ number
   pub first : FirstFault row e.fault
 
@@ -48,8 +48,8 @@ abbrev pub or_fault : Option RecordError → Result (Unit {0}) FileFault
 or_fault (Some e) = Err (Bad e)
 or_fault None = Ok tt
 
--- Which record of a file a fault names: the first that is not lawful, by its number, and its first field out of range. The
--- records before it are lawful.
+-- Which record of a file a fault names: the first that is not lawful, by its number, and its first field out of range.
+-- The records before it are lawful.
 pub record FirstBad (rows : List (List ℕ)) (e : RecordError) : Type 0 where
   pub row : List ℕ
   pub there : slice_get rows e.number ≡ Some row
@@ -75,7 +75,8 @@ pub record Taken (most : ℕ) (file : List ℕ) : Type 0 where
 -- what a file of at most this many records answers: first its length counts, then its records
 abbrev pub file_answer : ℕ → List ℕ → Result (Unit {0}) FileFault
 file_answer most file =
-    if length file % record_length == 0 && nat_le 1 (length file / record_length) && nat_le (length file / record_length) most
+    if length file % record_length == 0
+    && nat_le 1 (length file / record_length) && nat_le (length file / record_length) most
     then or_fault (first_bad 0 (rows_of file))
     else Err Count
 

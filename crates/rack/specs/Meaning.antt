@@ -60,6 +60,7 @@ abbrev pub after_at : List Record → ℕ → Edit → List Record
 after_at records channel edit = records_after (written_at records channel edit) records channel
 
 -- One write of a rack that holds no more than its records.
-pub record WroteRecords (old new : List Record) (channel : ℕ) (edit : Edit) (answer : Result (Unit {0}) ℕ) : Type 0 where
+pub record WroteRecords (old new : List Record) (channel : ℕ) (edit : Edit) (answer : Result (Unit {0}) ℕ)
+    : Type 0 where
   pub answers : answer ≡ answer_at old channel edit
   pub after : new ≡ after_at old channel edit

@@ -27,15 +27,15 @@ place_of (text place bytes) = of_text
 place_of (setpoint pattern) = of_setpoint
 
 -- The value of a write stands in a record.
-abbrev pub Stands : Edit → Record → Type 0
-Stands (polling_address address) r = r.fields.polling_address ≡ address
-Stands (preambles count) r = r.fields.preambles ≡ count
-Stands (assembly_number number) r = r.fields.assembly_number ≡ number
-Stands (changed on) r = r.fields.changed ≡ on
-Stands (key on) r = r.fields.key_open ≡ on
-Stands (sample reading) r = r.reading ≡ reading
-Stands (text place bytes) r = slice_range r.text place (place + length bytes) ≡ bytes
-Stands (setpoint pattern) r = r.fields.setpoint ≡ stored_pattern pattern
+abbrev pub HoldsValue : Edit → Record → Type 0
+HoldsValue (polling_address address) r = r.fields.polling_address ≡ address
+HoldsValue (preambles count) r = r.fields.preambles ≡ count
+HoldsValue (assembly_number number) r = r.fields.assembly_number ≡ number
+HoldsValue (changed on) r = r.fields.changed ≡ on
+HoldsValue (key on) r = r.fields.key_open ≡ on
+HoldsValue (sample reading) r = r.reading ≡ reading
+HoldsValue (text place bytes) r = slice_range r.text place (place + length bytes) ≡ bytes
+HoldsValue (setpoint pattern) r = r.fields.setpoint ≡ stored_pattern pattern
 
 -- Whether a text byte is of the run that a write names.
 abbrev pub in_run? : Edit → ℕ → Bool
@@ -44,7 +44,7 @@ in_run? edit at = false
 
 -- From a record to the one after a write that was accepted.
 pub record Puts (edit : Edit) (old new : Record) : Type 0 where
-  pub value : Stands edit new
+  pub value : HoldsValue edit new
   pub polling_address : place_of edit ≢ of_polling_address → new.fields.polling_address ≡ old.fields.polling_address
   pub preambles : place_of edit ≢ of_preambles → new.fields.preambles ≡ old.fields.preambles
   pub assembly_number : place_of edit ≢ of_assembly_number → new.fields.assembly_number ≡ old.fields.assembly_number

@@ -4,7 +4,7 @@ ghost use Rattle.std.specs.Result.{result_err};
 ghost use Rattle.record.specs.Faults.{fault_of};
 ghost use Rattle.record.specs.Lawful.{Lawful};
 ghost use Rattle.record.specs.Layout.{decoded};
-ghost use Rattle.rack.specs.Files.{refusal_of, words_of, fault_in, Names};
+ghost use Rattle.rack.specs.Files.{refusal_of, words_of, fault_in, Reports};
 ghost use Rattle.rack.specs.declared.files.FileFault.TheVariants.{Record as Bad};
 
 use record::{RECORD_LENGTH, RecordFault};
@@ -68,7 +68,7 @@ impl From<RecordError> for FileFault {
 /// Whether a record of a file is lawful.
 pub fn check_record(number: usize, row: &[u8; RECORD_LENGTH]) -> Result<(), RecordError>
     ensures fault { result_err result ≡ fault_in number (fault_of row.now) None }
-    ensures names { IfErr result (Names number row.now) }
+    ensures names { IfErr result (Reports number row.now) }
     ensures lawful { OnOk result (Lawful (decoded row.now)) }
 {
     record::check(row).map_err(|fault| RecordError { number, fault })

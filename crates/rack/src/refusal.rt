@@ -18,6 +18,7 @@ pub enum RackRefusal {
 }
 
 impl RackRefusal {
+    /// What answers the write: a response code of the line, or the number of the call's refusal.
     pub fn number(self) -> u8
         ensures { result ≡ number_of self }
     {

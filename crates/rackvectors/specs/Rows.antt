@@ -29,10 +29,15 @@ Tells kind word (Text place bytes) = ⊥
 Tells kind word (Setpoint pattern) = (kind ≡ codes "setpoint") × (pattern_at word ≡ Ok pattern)
 
 -- two patterns are a sample
-abbrev pub Samples : Result ℕ WordFault → Result ℕ WordFault → Change → Type 0
-Samples (Ok flow) (Ok temperature) change = change ≡ Sample (record { flow = value_of flow; temperature = value_of temperature })
-Samples (Ok flow) (Err e) change = ⊥
-Samples (Err e) temperature change = ⊥
+abbrev pub SamplesOf : Result ℕ WordFault → Result ℕ WordFault → Change → Type 0
+SamplesOf (Ok flow) (Ok temperature) change =
+    change ≡ Sample (record { flow = value_of flow; temperature = value_of temperature })
+SamplesOf (Ok flow) (Err e) change = ⊥
+SamplesOf (Err e) temperature change = ⊥
+
+-- two words are a sample, its flow and its temperature
+abbrev pub Samples : List ℕ → List ℕ → Change → Type 0
+Samples flow temperature = SamplesOf (pattern_at flow) (pattern_at temperature)
 
 -- the bytes of a row are a file of one lawful record
 abbrev pub Holds : List ℕ → Record → Type 0

@@ -7,7 +7,6 @@
 #![tactic(auto)]
 
 ghost use Rattle.std.specs.Prelude.{IfOk};
-ghost use Rattle.tables.specs.Words.{pattern_at};
 ghost use Rattle.rackvectors.specs.Rows.{Tells, Samples, Holds};
 
 use anyhow::{Context, anyhow};
@@ -65,8 +64,7 @@ fn write(rt: &HostRuntime, mut rack: Ceiling<Single>, change: &[&str]) -> anyhow
 
 // A sample, by its two patterns.
 fn sample_of(flow: &str, temperature: &str) -> anyhow::Result<Change<'static>>
-    ensures { IfOk result
-        (λ change. Samples (pattern_at flow.now) (pattern_at temperature.now) change) }
+    ensures { IfOk result (λ change. Samples flow.now temperature.now change) }
 {
     let flow = value_of(to_pattern(flow)?);
     let temperature = value_of(to_pattern(temperature)?);

@@ -16,7 +16,9 @@ number24 bytes at = slice_index bytes at * 65536 + slice_index bytes (at + 1) * 
 
 -- The number in the four bytes from a place on.
 abbrev pub number32 : List ℕ → ℕ → ℕ
-number32 bytes at = slice_index bytes at * 16777216 + slice_index bytes (at + 1) * 65536 + slice_index bytes (at + 2) * 256 + slice_index bytes (at + 3)
+number32 bytes at =
+    slice_index bytes at * 16777216 + slice_index bytes (at + 1) * 65536
+    + slice_index bytes (at + 2) * 256 + slice_index bytes (at + 3)
 
 -- Whether a bit of a number is 1; bit 0 is the least significant.
 abbrev pub bit? : ℕ → ℕ → Bool

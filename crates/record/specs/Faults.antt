@@ -7,7 +7,7 @@ use Rattle.setpoint.specs.Value.{value_of}
 use Rattle.record.specs.declared.faults.RecordFault.{RecordFault}
 use Rattle.record.specs.declared.faults.RecordFault.TheVariants.{PollingAddress, Preambles, Flags, Setpoint, Ceiling, FullScale, Flow, Temperature, Reserved}
 use Rattle.record.specs.Bytes.{number32, zeros?}
-use Rattle.record.specs.Numbers.{most_polling_address, least_preambles, most_preambles, most_flags, most_ceiling, reserved_at}
+use Rattle.record.specs.Numbers.{most_polling_address, least_reply_preambles, most_reply_preambles, most_flags, most_ceiling, reserved_at}
 
 -- The offset of the field that a fault names.
 abbrev pub offset_of : RecordFault → ℕ
@@ -38,7 +38,7 @@ faults = field_faults ++ later_faults
 -- Whether the field that a fault names is out of range.
 abbrev pub offends? : List ℕ → RecordFault → Bool
 offends? bytes PollingAddress = nat_lt most_polling_address (slice_index bytes 4)
-offends? bytes Preambles = nat_lt (slice_index bytes 5) least_preambles || nat_lt most_preambles (slice_index bytes 5)
+offends? bytes Preambles = nat_lt (slice_index bytes 5) least_reply_preambles || nat_lt most_reply_preambles (slice_index bytes 5)
 offends? bytes Flags = nat_lt most_flags (slice_index bytes 9)
 offends? bytes Setpoint = not (lawful? (number32 bytes 10))
 offends? bytes Ceiling = nat_lt most_ceiling (slice_index bytes 14)

@@ -4,7 +4,7 @@ use Rattle.setpoint.specs.Lawful as setpoints
 use Rattle.setpoint.specs.Units.{full_scale?}
 use Rattle.record.specs.declared.Fields.{Fields}
 use Rattle.record.specs.declared.Record.{Record}
-use Rattle.record.specs.Numbers.{most_polling_address, least_preambles, most_preambles, most_ceiling, end_of_24_bits, text_length}
+use Rattle.record.specs.Numbers.{most_polling_address, least_reply_preambles, most_reply_preambles, most_ceiling, end_of_24_bits, text_length}
 use Rattle.record.specs.Readings.{finite?, FiniteReading}
 
 -- A pattern of 32 bits that is a lawful setpoint's.
@@ -16,7 +16,7 @@ LawfulSetpoint pattern = (pattern < 2 ^ 32) × (setpoints.lawful? pattern ≡ tr
 pub record LawfulFields (fields : Fields) : Type 0 where
   pub identification : fields.identification < end_of_24_bits
   pub polling_address : fields.polling_address ≤ most_polling_address
-  pub preambles : (least_preambles ≤ fields.preambles) × (fields.preambles ≤ most_preambles)
+  pub preambles : (least_reply_preambles ≤ fields.preambles) × (fields.preambles ≤ most_reply_preambles)
   pub assembly_number : fields.assembly_number < end_of_24_bits
   pub setpoint : LawfulSetpoint fields.setpoint
   pub ceiling : fields.ceiling ≤ most_ceiling
@@ -34,7 +34,7 @@ abbrev pub in_range? : Fields → Bool
 in_range? fields =
     nat_lt fields.identification end_of_24_bits
     && nat_le fields.polling_address most_polling_address
-    && (nat_le least_preambles fields.preambles && nat_le fields.preambles most_preambles)
+    && (nat_le least_reply_preambles fields.preambles && nat_le fields.preambles most_reply_preambles)
     && nat_lt fields.assembly_number end_of_24_bits
     && setpoints.lawful? fields.setpoint
     && nat_le fields.ceiling most_ceiling

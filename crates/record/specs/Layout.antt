@@ -52,4 +52,5 @@ reading_at bytes = record { flow = value_of (number32 bytes 20); temperature = v
 
 -- The record in 80 bytes, by the places of its fields.
 abbrev pub decoded : List ℕ → Record
-decoded bytes = record { fields = fields_at bytes; reading = reading_at bytes; text = take text_length (drop text_at bytes) }
+decoded bytes =
+    record { fields = fields_at bytes; reading = reading_at bytes; text = take text_length (drop text_at bytes) }

@@ -4,11 +4,12 @@ use Rattle.std.specs.Prelude.{ℕ, ◌^◌}
 abbrev pub most_polling_address : ℕ
 most_polling_address = 15
 
-abbrev pub least_preambles : ℕ
-least_preambles = 2
+-- Those of a channel's replies.
+abbrev pub least_reply_preambles : ℕ
+least_reply_preambles = 2
 
-abbrev pub most_preambles : ℕ
-most_preambles = 15
+abbrev pub most_reply_preambles : ℕ
+most_reply_preambles = 15
 
 -- Two flags, in the two lowest bits.
 abbrev pub most_flags : ℕ

@@ -4,6 +4,7 @@ ghost use Rattle.std.specs.Result.{result_err};
 ghost use Rattle.record.specs.Faults.{fault_of, FirstFault};
 ghost use Rattle.record.specs.Inverse.{EncodesAgain};
 ghost use Rattle.record.specs.Layout.{fields_at, decoded};
+ghost use Rattle.record.specs.Numbers.{text_length};
 
 use crate::bytes::{bit, u24_at, u32_at};
 use crate::faults::check;
@@ -41,7 +42,7 @@ pub fn record_at(bytes: &[u8; RECORD_LENGTH]) -> Record
 /// The text bytes of a record in its 80 bytes, where they stand: whoever asks for one of them copies none.
 pub fn text_of(bytes: &[u8; RECORD_LENGTH]) -> &[u8]
     ensures value { result.now ≡ (decoded bytes.now).text }
-    ensures length { length result.now ≡ 45 }
+    ensures length { length result.now ≡ text_length }
 {
     &bytes[TEXT_AT..RESERVED_AT]
 }

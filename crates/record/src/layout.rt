@@ -2,8 +2,10 @@
 
 use std::ops::Range;
 
+/// How many bytes a record has.
 pub const RECORD_LENGTH: usize = 80;
 
+/// How many of them are text.
 pub const TEXT_LENGTH: usize = 45;
 
 pub const FIELDS_LENGTH: usize = 20;
@@ -38,13 +40,16 @@ pub const TEXT_AT: usize = 28;
 
 pub const RESERVED_AT: usize = 73;
 
-/// The parts of a record's text, each by its places there.
+/// Where the tag stands in a record's text.
 pub const TAG: Range<usize> = 0..6;
 
+/// Where the descriptor stands there.
 pub const DESCRIPTOR: Range<usize> = 6..18;
 
+/// Where the date stands there.
 pub const DATE: Range<usize> = 18..21;
 
+/// Where the message stands there.
 pub const MESSAGE: Range<usize> = 21..TEXT_LENGTH;
 
 /// Tag, descriptor and date, which stand side by side.
@@ -57,10 +62,13 @@ pub const KEY_BIT: u8 = 1;
 
 pub const MAX_FLAGS: u8 = 3;
 
+/// The largest polling address.
 pub const MAX_POLLING_ADDRESS: u8 = 15;
 
+/// The fewest preambles that a record may ask for before a reply.
 pub const MIN_PREAMBLES: u8 = 2;
 
+/// The most of them.
 pub const MAX_PREAMBLES: u8 = 15;
 
 pub const MAX_CEILING: u8 = 100;

@@ -54,6 +54,7 @@ pub struct Identity {
 }
 
 impl Fields {
+    /// Its two parts as they stand in the fields.
     pub fn identity(self) -> Identity
         ensures { result ≡ identity_of self }
     {

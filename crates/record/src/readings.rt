@@ -11,6 +11,7 @@ pub struct Reading {
 }
 
 impl Reading {
+    /// Whether it may stand in a lawful record: neither value is infinite or a NaN.
     pub fn is_finite(self) -> bool
         ensures value { result ≡ finite? self }
         ensures means { Decides result (FiniteReading self) }

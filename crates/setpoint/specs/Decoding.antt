@@ -10,4 +10,6 @@ abbrev pub Decodes : Binary32 → Float → Type 0
 Decodes NotANumber x = x ≡ nan
 Decodes (Infinite negative) x = x ≡ inf negative
 Decodes (Finite negative significand exponent) x =
-    HasValue x negative (significand * 2 ^ exponent) (2 ^ 149) × (significand < 2 ^ 24) × (0 < exponent → 2 ^ 23 ≤ significand)
+    HasValue x negative (significand * 2 ^ exponent) (2 ^ 149)
+    × (significand < 2 ^ 24)
+    × (0 < exponent → 2 ^ 23 ≤ significand)

@@ -6,8 +6,8 @@ use Rattle.setpoint.specs.Value.{nought}
 
 -- The load of a setpoint, a term of this project: the least whole number that is not below its value times 1,024.
 -- A value m * 2 ^ e is the fraction m * up e / down e, and `ratio_ceil` divides and rounds up.
--- What is not finite has no load, and 0 stands in its place. What is below zero has none either: here it gets that of its magnitude,
--- which counts only where `has_load?` holds.
+-- What is not finite has no load, and 0 stands in its place. What is below zero has none either: here it gets that of its
+-- magnitude, which counts only where `has_load?` holds.
 abbrev pub load_of : Float → ℕ
 load_of nan = 0
 load_of (inf s) = 0

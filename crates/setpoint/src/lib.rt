@@ -90,6 +90,7 @@ pub enum SetpointRefusal {
 }
 
 impl SetpointRefusal {
+    /// The response code that answers the write.
     pub fn code(self) -> u8
         ensures { result ≡ code_of self }
     {

@@ -6,7 +6,7 @@ use Rattle.std.specs.List.{AllByRecursion}
 use Rattle.record.specs.Faults.{fault_of}
 use Rattle.record.specs.Lawful.{Lawful}
 use Rattle.record.specs.Layout.{decoded}
-use Rattle.rack.specs.Files.{fault_in, rows_of, or_fault, file_answer, file_records, Explains, FirstBad, Names, OfRecords, Taken}
+use Rattle.rack.specs.Files.{fault_in, rows_of, or_fault, file_answer, file_records, Explains, FirstBad, Reports, OfRecords, Taken}
 use Rattle.rack.specs.declared.files.FileFault.TheVariants.{Record as Bad}
 use Rattle.rack.specs.declared.files.RecordError.{RecordError}
 
@@ -23,7 +23,7 @@ module _ (file row : List ℕ) (whole : IsWholeChunk file row 80) where
   counted : OfRecords 1 file
   counted = record { whole = rw whole.long refl; some = rw whole.long (omega arith); few = rw whole.long (omega arith) }
 
-  first_bad : (e : RecordError) → Names 0 row e → FirstBad (rows_of file) e
+  first_bad : (e : RecordError) → Reports 0 row e → FirstBad (rows_of file) e
   first_bad e n = record {
     row = row;
     there = rw (one_row, n.numbers) refl;
@@ -31,7 +31,7 @@ module _ (file row : List ℕ) (whole : IsWholeChunk file row 80) where
     before = subst (λ (k : ℕ). AllByRecursion Lawful (map decoded (take k (rows_of file)))) (sym n.numbers) tt;
   }
 
-  pub explained : (e : RecordError) → Names 0 row e → Explains 1 file (Bad e)
+  pub explained : (e : RecordError) → Reports 0 row e → Explains 1 file (Bad e)
   explained e n = (counted, first_bad e n)
 
   pub one_taken : Lawful (decoded row) → Taken 1 file

@@ -107,3 +107,26 @@ fn joined(
 {
     Some(u32::from_be_bytes([first?, second?, third?, fourth?]))
 }
+
+#[cfg(test)]
+mod tests {
+    use super::*;
+    use std::fmt::Write;
+
+    // A writer that has no room.
+    #[derive(Drop)]
+    struct Full;
+
+    impl fmt::Write for Full {
+        fn write_str(&mut self, _: &str) -> fmt::Result {
+            Err(fmt::Error)
+        }
+    }
+
+    #[test]
+    fn a_writer_that_fails(rt: HostRuntime) {
+        assert!(rt; write!(Full, "{}", WordFault::NotBytes).is_err());
+        assert!(rt; write!(Full, "{}", WordFault::NotPattern).is_err());
+        assert!(rt; write!(Full, "{}", WordFault::Memory).is_err());
+    }
+}

@@ -8,7 +8,7 @@ use Rattle.record.specs.Faults.{fault_of}
 use Rattle.record.proofs.Faultless.{from_faultless}
 use Rattle.record.proofs.FirstFaults.{first_fault}
 use Rattle.rack.specs.declared.files.RecordError.{RecordError}
-use Rattle.rack.specs.Files.{fault_in, Names}
+use Rattle.rack.specs.Files.{fault_in, Reports}
 use Rattle.rack.proofs.files.check_record.Goals as goal
 
 -- where no error is made of a fault, there was none
@@ -23,12 +23,12 @@ returns-clause-lawful c =
     none_made c.args.number (fault_of row) (λ none. (from_faultless row c.told-row (All-from_get_or (λ b. b < 256) row 0 (λ i _. c.fits-row i)) none).lawful) c.map_err.result (search rules)
 
 -- an error that is made of a row's fault names it
-named : (number : ℕ) (row : List ℕ) (fault : Option RecordFault) → fault_of row ≡ fault → (r : Result (Unit {0}) RecordError) → result_err r ≡ fault_in number fault None → IfErr r (Names number row)
+named : (number : ℕ) (row : List ℕ) (fault : Option RecordFault) → fault_of row ≡ fault → (r : Result (Unit {0}) RecordError) → result_err r ≡ fault_in number fault None → IfErr r (Reports number row)
 named number row fault q (Ok x) e = tt
 named number row None q (Err x) e = absurd (none-some x (sym e))
 named number row (Some f) q (Err x) e =
     let s : x ≡ record { number = number; fault = f } = same_Some _ _ e in
-    subst (Names number row) (sym s) (record { numbers = refl; first = first_fault row f q })
+    subst (Reports number row) (sym s) (record { numbers = refl; first = first_fault row f q })
 
 pub returns-clause-names : goal.returns-clause-names
 returns-clause-names c = named c.args.number c.args.row.now (fault_of c.args.row.now) refl c.map_err.result (search rules)
