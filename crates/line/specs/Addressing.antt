@@ -1,7 +1,7 @@
 -- Whom a request means.
 use Rattle.std.specs.Prelude.{ℕ, ◌/◌, ◌%◌, Bool, true, false, if◌then◌else◌, not, ◌&&◌, ◌||◌, List, length, ◌==◌, nat_eq, slice_index}
 use Rattle.std.specs.Cmp.Lexicographic.{pointwise}
-use Rattle.frame.specs.Frames.{Parts}
+use Rattle.frame.specs.Frames.{Parts, short_width, long_width}
 use Rattle.record.specs.Bytes.{number24}
 use Rattle.record.specs.TextParts.{tag, part_of}
 use Rattle.record.specs.declared.Fields.{Fields}
@@ -34,8 +34,8 @@ every_channel? address =
 -- number
 abbrev pub address_means? : List ℕ → ℕ → ℕ → ℕ → Bool
 address_means? address polling device identification =
-    if length address == 1 then short_means? (slice_index address 0) polling
-    else if length address == 5
+    if length address == short_width then short_means? (slice_index address 0) polling
+    else if length address == long_width
     then long_means? address device identification || every_channel? address
     else false
 

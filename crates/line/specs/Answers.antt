@@ -6,7 +6,11 @@ use Rattle.frame.specs.Frames.{Parts, RequestFrame, reply_frame}
 use Rattle.frame.specs.Making.{asked}
 use Rattle.frame.specs.Transmissions.{Request, Replies, span_of}
 
--- the longest answer: 15 preambles, a start, five address bytes, command and count, 26 bytes that are
+-- the most that a reply carries: two status bytes and 24 data bytes
+abbrev pub most_carried : ℕ
+most_carried = 26
+
+-- the longest answer: 15 preambles, a start, five address bytes, command and count, the most that is
 -- carried, and a check
 abbrev pub max_answer : ℕ
 max_answer = 50

@@ -1,7 +1,7 @@
 -- The characters of a transmission, and what a receiver keeps of them.
 use Rattle.std.specs.Prelude.{◌≡◌, ℕ, min, Bool, List, map, drop, fold, bit_or}
 use Rattle.std.specs.List.{list_any}
-use Rattle.frame.specs.Transmissions.{preambles_of, span_of}
+use Rattle.frame.specs.Transmissions.{fewest_preambles, preambles_of, span_of}
 use Rattle.record.specs.Bytes.{bit?}
 
 -- a character as the line delivers it: a byte, and the sum of its marks, 1 parity, 2 overrun, 4 framing
@@ -30,13 +30,9 @@ received characters = record {
   marks = fold bit_or 0 (drop (preambles_of (bytes_in characters)) (map (λ c. c.marks) characters));
 }
 
--- the preambles without which no transmission is heard
-abbrev pub least_preambles : ℕ
-least_preambles = 2
-
 -- a count of preambles as far as it matters
 abbrev pub enough : ℕ → ℕ
-enough count = min count least_preambles
+enough count = min count fewest_preambles
 
 -- These are the characters of which this was kept. Two preambles are as good as more, and may stand for
 -- them.

@@ -56,9 +56,12 @@ changed_by j r = after_edits (edits j) r
 abbrev pub Writable : Judgement → Fields → Type 0
 Writable j fields = (r : Record) → r.fields ≡ fields → Admitted (edits j) r
 
--- the second status: 64 where the configuration counts as changed
+-- the second status where the configuration counts as changed
+abbrev pub configuration_changed : ℕ
+configuration_changed = 64
+
 abbrev pub second_for : Bool → ℕ
-second_for changed = if changed then 64 else 0
+second_for changed = if changed then configuration_changed else 0
 
 abbrev pub second_status : Record → ℕ
 second_status r = second_for r.fields.changed

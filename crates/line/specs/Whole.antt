@@ -6,20 +6,20 @@ use Rattle.frame.specs.Check.{check_of}
 use Rattle.frame.specs.Frames.{Parts, RequestFrame, request_frame}
 use Rattle.frame.specs.Views.{frame_parts}
 use Rattle.frame.specs.declared.Frame.{Frame}
-use Rattle.frame.specs.Transmissions.{Request, Transmits, span_of}
+use Rattle.frame.specs.Transmissions.{Request, Transmits, fewest_preambles, span_of}
 use Rattle.record.specs.Bytes.{bit?}
-use Rattle.line.specs.Characters.{Character, Reception, Keeps, bytes_in, from_start, marked?, least_preambles}
+use Rattle.line.specs.Characters.{Character, Reception, Keeps, bytes_in, from_start, marked?}
 
 -- the frame of a whole transmission: at least two preambles, a request's frame and nothing more
 abbrev pub frame_of : Reception → Option Parts
-frame_of x = if nat_le least_preambles x.preambles then result_ok (request_frame x.span) else None
+frame_of x = if nat_le fewest_preambles x.preambles then result_ok (request_frame x.span) else None
 
 -- a frame is told exactly where the transmission is whole: at least two preambles, and a request's frame
 -- by the frame relation
 abbrev pub TellsWhole : Reception → Option Frame → Type 0
 TellsWhole x told =
-    MatchOption told ((p : Parts) → least_preambles ≤ x.preambles → RequestFrame x.span p → ⊥)
-    (λ f. (least_preambles ≤ x.preambles) × RequestFrame x.span (frame_parts f))
+    MatchOption told ((p : Parts) → fewest_preambles ≤ x.preambles → RequestFrame x.span p → ⊥)
+    (λ f. (fewest_preambles ≤ x.preambles) × RequestFrame x.span (frame_parts f))
 
 -- a whole transmission is sound if no character from the start on is marked and its exclusive or is
 -- 0
@@ -39,12 +39,28 @@ TellsSound x told =
     (characters : List Character) (f : Parts) → Keeps x characters → frame_of x ≡ Some f
     → told ≡ true ↔ Sound characters
 
--- The first status of a communication error: 128 and, each once, 64 for parity, 32 for overrun, 16 for
--- framing, 8 for a wrong check.
+-- what every first status of a communication error has, and what each damage adds to it
+abbrev pub communication_error : ℕ
+communication_error = 128
+
+abbrev pub parity_error : ℕ
+parity_error = 64
+
+abbrev pub overrun_error : ℕ
+overrun_error = 32
+
+abbrev pub framing_error : ℕ
+framing_error = 16
+
+abbrev pub check_error : ℕ
+check_error = 8
+
+-- the first status of a communication error: each damage counts once
 abbrev pub error_status_by : Bool → Bool → Bool → Bool → ℕ
 error_status_by parity overrun framing wrong_check =
-    128 + (if parity then 64 else 0) + (if overrun then 32 else 0) + (if framing then 16 else 0)
-    + (if wrong_check then 8 else 0)
+    communication_error + (if parity then parity_error else 0)
+    + (if overrun then overrun_error else 0) + (if framing then framing_error else 0)
+    + (if wrong_check then check_error else 0)
 
 abbrev pub wrong_check? : List ℕ → Bool
 wrong_check? span = not (check_of span == 0)

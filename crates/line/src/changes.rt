@@ -63,12 +63,7 @@ pub(crate) fn changes_of<'a>(command: Command, data: &'a [u8]) -> Changes<'a>
             field: None,
             flag: Some(Change::Changed(false)),
         },
-        Command::ReadUniqueIdentifier
-        | Command::ReadPrimaryVariable
-        | Command::ReadUniqueIdentifierByTag
-        | Command::ReadMessage
-        | Command::ReadTagDescriptorDate
-        | Command::ReadAssemblyNumber
-        | Command::ReadSetpoint => Changes::NONE,
+        // The others read.
+        _ => Changes::NONE,
     }
 }

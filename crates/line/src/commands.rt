@@ -111,3 +111,39 @@ impl fmt::Display for UnknownCommand {
 }
 
 impl Error for UnknownCommand {}
+
+#[cfg(test)]
+mod tests {
+    use super::*;
+    use std::fmt::Write;
+
+    // A writer that takes four bytes and fails at the first one more.
+    #[derive(Drop)]
+    struct Narrow {
+        taken: [u8; 4],
+        length: usize,
+    }
+
+    impl fmt::Write for Narrow {
+        fn write_str(&mut self, text: &str) -> fmt::Result {
+            for byte in text.as_bytes() {
+                if self.length >= 4 {
+                    return Err(fmt::Error);
+                }
+                self.taken[self.length] = *byte;
+                self.length += 1;
+            }
+            Ok(())
+        }
+    }
+
+    #[test]
+    fn a_writer_that_fails(rt: HostRuntime) {
+        let mut narrow = Narrow {
+            taken: [0; 4],
+            length: 0,
+        };
+        assert!(rt; write!(narrow, "{}", UnknownCommand).is_err());
+        assert_eq!(rt; narrow.taken, *b"unkn");
+    }
+}

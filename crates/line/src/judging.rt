@@ -1,13 +1,15 @@
 //! How a channel judges a transmission that means it.
 
-ghost use Rattle.std.specs.Prelude.{◌≡◌, length, ◌^◌, ◌<◌};
+ghost use Rattle.std.specs.Prelude.{◌≡◌, true, ◌^◌, ◌<◌};
 ghost use Rattle.setpoint.specs.Refusals.{admitted_under};
 ghost use Rattle.setpoint.specs.Value.{value_of};
 ghost use Rattle.record.specs.Bytes.{number32};
 ghost use Rattle.frame.specs.Views.{frame_parts};
 ghost use Rattle.line.specs.Codes.{code_of, given?, weighed, FirstGiven};
+ghost use Rattle.line.specs.Commands.{counted?};
 ghost use Rattle.line.specs.Judgements.{judgement, Writable};
 ghost use Rattle.line.specs.Views.{judged, reception};
+ghost use Rattle.line.specs.declared.commands.Command.TheVariants.{WriteSetpoint};
 
 use crate::accepted::AcceptedCommand;
 use crate::allotting::Allotting;
@@ -78,7 +80,7 @@ pub fn response_code<A: Allotting>(
 /// The code of a setpoint in percent, behind its unit code: as the rack refuses, then as its share is
 /// weighed.
 fn setpoint_code<A: Allotting>(data: &[u8], fields: Fields, allotting: &A) -> ResponseCode
-    requires { length «data».now ≡ 5 }
+    requires { counted? WriteSetpoint «data».now ≡ true }
     ensures { result
         ≡ weighed (A.allotment allotting.now) fields.full_scale
         (admitted_under fields.ceiling (value_of (number32 «data».now 1))) }

@@ -18,6 +18,7 @@ pub struct Marks {
 const ALL: u8 = 7;
 
 impl Marks {
+    /// No mark.
     pub const NONE: Marks = Marks {
         parity: false,
         overrun: false,

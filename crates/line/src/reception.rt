@@ -1,15 +1,13 @@
 //! What a receiver keeps of a transmission.
 
-ghost use Rattle.std.specs.Prelude.{◌≡◌};
-ghost use Rattle.std.specs.Option.{option_map};
-ghost use Rattle.frame.specs.Views.{frame_parts};
-ghost use Rattle.line.specs.Views.{reception};
-ghost use Rattle.line.specs.Whole.{frame_of, sound?, error_status, TellsWhole, TellsSound, TellsDamage};
+ghost use Rattle.std.specs.Prelude.{◌≡◌, ◌≢◌, ◌<◌, length, slice_index};
+ghost use Rattle.frame.specs.Transmissions.{preamble};
+ghost use Rattle.line.specs.Marks.{marks_number};
 
 use crate::marks::Marks;
 use frame::{Frame, MIN_PREAMBLES};
 
-/// What a receiver keeps of a transmission.
+/// What a receiver keeps of a transmission: some characters leave it.
 #[derive(Clone, Copy)]
 pub struct Received<'a> {
     /// The preambles counted; two stand for more.
@@ -18,9 +16,18 @@ pub struct Received<'a> {
     pub span: &'a [u8],
     /// All marks from the start on together.
     pub marks: Marks,
+    // A span does not begin with a preamble.
+    pub ghost begun: { 0 < length span.now → slice_index span.now 0 ≢ preamble },
+    // Marks begin with the span.
+    pub ghost unmarked: { length span.now ≡ 0 → marks_number marks ≡ 0 },
 }
 
 impl<'a> Received<'a> {
+    ghost use Rattle.std.specs.Option.{option_map};
+    ghost use Rattle.frame.specs.Views.{frame_parts};
+    ghost use Rattle.line.specs.Views.{reception};
+    ghost use Rattle.line.specs.Whole.{frame_of, sound?, error_status, TellsWhole, TellsSound, TellsDamage};
+
     /// The frame of a whole transmission, sound or not.
     pub fn frame(self) -> Option<Frame<'a>>
         ensures value { option_map frame_parts result ≡ frame_of (reception self.entry) }

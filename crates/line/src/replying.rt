@@ -4,6 +4,7 @@ ghost use Rattle.std.specs.Prelude.{◌≡◌, ◌+◌, ◌≤◌, [], ◌∷◌
 ghost use Rattle.record.specs.Lawful.{LawfulFields};
 ghost use Rattle.record.specs.TextParts.{labels, message, part_of};
 ghost use Rattle.record.specs.declared.Record.{Record as ChannelRecord};
+ghost use Rattle.line.specs.Answers.{most_carried};
 ghost use Rattle.line.specs.Judgements.{carried, second_for};
 ghost use Rattle.line.specs.Replies.{reply_data};
 ghost use Rattle.line.specs.Views.{judged, MakesAnswer, ShortAnswer, KeepsAnswerLaw};
@@ -17,8 +18,10 @@ use frame::{Frame, Transmission};
 use record::{Fields, LABELS, MESSAGE, Reading, u24_to_be_bytes};
 use refusals::Refusal;
 
+/// How many text bytes tag, descriptor and date are together.
 pub const LABELS_LENGTH: usize = LABELS.end - LABELS.start;
 
+/// How many text bytes the message is.
 pub const MESSAGE_LENGTH: usize = MESSAGE.end - MESSAGE.start;
 
 /// No answer is longer.
@@ -117,7 +120,7 @@ fn status_bytes(status: u8, second: u8) -> Content
 
 /// Appends a part for which there is room.
 fn put(content: &mut Content, part: &[u8])
-    requires { length content.old.items + length part.now ≤ 26 }
+    requires { length content.old.items + length part.now ≤ most_carried }
     ensures { content.new.items ≡ content.old.items ++ part.now }
 {
     let _ = content.try_extend_from_slice(part);

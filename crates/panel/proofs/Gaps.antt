@@ -19,7 +19,7 @@ use Rattle.line.specs.Judgements.{Judgement, refused, judgement, own_judgement}
 use Rattle.line.specs.declared.codes.ResponseCode.TheVariants.{AccessRestricted}
 use Rattle.rack.specs.Meaning.{channel_of}
 use Rattle.record.specs.declared.Record.{Record}
-use Rattle.runs.specs.Channel.{flow_channel, frame_in, asks?, denial_to, reply_to as own_reply, after_frame}
+use Rattle.runs.specs.Channel.{flow_channel, frame_in, frame_asks?, denial_to, own_reply_to, after_frame}
 use Rattle.runs.specs.Outcomes.{Outcome, outcome, outcome_of, sole, answered_by, ended}
 use Rattle.runs.specs.Places.{only_place}
 use Rattle.runs.specs.Shares.{others}
@@ -48,9 +48,9 @@ module _ (supply : ℕ) (records : List Record) (t : List Character) (place : �
   -- the outcome at a channel, by the frame of the transmission
   abbrev chosen : Option Parts → Outcome flow_channel
   chosen o =
-      cond (option_map_or (asks? x r) o false && ltb (capacity_of supply) (others flow_channel records place + option_map_or (λ f. asked_share f.«data» r.fields.full_scale) o 0))
+      cond (option_map_or (frame_asks? x r) o false && ltb (capacity_of supply) (others flow_channel records place + option_map_or (λ f. asked_share f.«data» r.fields.full_scale) o 0))
       (outcome_of flow_channel (answered place (option_map_or (denial_to r) o [])) records [])
-      (outcome_of flow_channel (answered place (option_map_or (own_reply x r) o [])) (set records place (option_map_or (after_frame x r) o r)) [])
+      (outcome_of flow_channel (answered place (option_map_or (own_reply_to x r) o [])) (set records place (option_map_or (after_frame x r) o r)) [])
 
   abbrev judged : Parts → Judgement → Outcome flow_channel
   judged f j = outcome_as records (Some (answering_by f place r j))
@@ -64,7 +64,7 @@ module _ (supply : ℕ) (records : List Record) (t : List Character) (place : �
       → answered_by flow_channel (capacity_of supply) records t place (Some r) ≡ judged f (judgement x f r.fields (allotment_of supply records place))
   answers f framed e =
       ap chosen framed
-      ∙ (objected f (asks? x r f && ltb (capacity_of supply) (others flow_channel records place + asked_share f.«data» r.fields.full_scale)) e
+      ∙ (objected f (frame_asks? x r f && ltb (capacity_of supply) (others flow_channel records place + asked_share f.«data» r.fields.full_scale)) e
       ∙ ap (judged f) (sym (judgement_split x f r (allotment_of supply records place))))
 
 -- what answers, by the frame

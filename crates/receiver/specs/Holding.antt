@@ -2,6 +2,7 @@
 use Rattle.std.specs.Prelude.{◌≡◌, ℕ, ◌<◌, List, [], ◌∷◌, ◌++◌, map, replicate, Option, if◌then◌else◌}
 use Rattle.std.specs.List.{AllByRecursion}
 use Rattle.std.specs.Option.{MatchOption}
+use Rattle.frame.specs.Transmissions.{preamble}
 use Rattle.line.specs.Characters.{Character, Reception, Keeps, received}
 use Rattle.receiver.specs.Summaries.{Summary, summary_of, held}
 use Rattle.receiver.specs.declared.state.Receiver.{Receiver}
@@ -33,7 +34,7 @@ whole_span s = if s.overlong then s.span ++ 0 ∷ [] else s.span
 
 -- the characters that stand for all that a summary may be made of
 abbrev pub pending_of : Summary → List Character
-pending_of s = replicate s.preambles (unmarked 0xff) ++ span_characters s.marks (whole_span s)
+pending_of s = replicate s.preambles (unmarked preamble) ++ span_characters s.marks (whole_span s)
 
 -- Characters that a receiver holds: every value of the type holds some.
 abbrev pub pending : Receiver → List Character

@@ -1,8 +1,10 @@
 //! What a panel keeps of a transmission.
 
 ghost use Rattle.std.specs.Prelude.{◌≡◌, ◌≢◌, ◌<◌, ◌≤◌, length, slice_index};
+ghost use Rattle.frame.specs.Frames.{longest_frame};
+ghost use Rattle.frame.specs.Transmissions.{preamble, fewest_preambles};
 ghost use Rattle.line.specs.Marks.{marks_number};
-ghost use Rattle.receiver.specs.Spans.{longest_span, counted_preambles, kept_length, Bytes, Bytes-prop};
+ghost use Rattle.receiver.specs.Spans.{kept_length, Bytes, Bytes-prop};
 
 use line::Marks;
 
@@ -22,12 +24,12 @@ pub struct Receiver {
     pub(crate) len: Option<usize>,
     // All marks from the start on together.
     pub(crate) marks: Marks,
-    ghost counted: { preambles ≤ counted_preambles },
-    ghost room: { length bytes ≡ longest_span },
+    ghost counted: { preambles ≤ fewest_preambles },
+    ghost room: { length bytes ≡ longest_frame },
     ghost fit: { Bytes bytes } by { Bytes-prop bytes },
-    ghost within: { kept_length len ≤ longest_span },
+    ghost within: { kept_length len ≤ longest_frame },
     // A span does not begin with a preamble.
-    ghost begun: { 0 < kept_length len → slice_index bytes 0 ≢ 255 },
+    ghost begun: { 0 < kept_length len → slice_index bytes 0 ≢ preamble },
     // Marks begin with the span.
     ghost unmarked: { kept_length len ≡ 0 → marks_number marks ≡ 0 },
 }

@@ -24,7 +24,7 @@ use Rattle.line.specs.declared.codes.ResponseCode.{ResponseCode}
 use Rattle.line.specs.declared.codes.ResponseCode.TheVariants.{Success, AccessRestricted, NotImplemented}
 use Rattle.line.specs.declared.commands.Command.{Command}
 use Rattle.line.specs.declared.commands.Command.TheVariants.{WriteSetpoint}
-use Rattle.runs.specs.Channel.{Operation, sample, key, edit_for, nameplate, Granted, granted_in, pattern_in, after_command, tells?, after_reply, after_operation, share_of_grant, setpoint?, asks?, asks_by?, means_by?, after_frame, reply_to, denial_to, frame_in, flow_channel}
+use Rattle.runs.specs.Channel.{Operation, sample, key, edit_for, nameplate, Granted, granted_in, pattern_in, after_command, tells?, after_reply, after_operation, share_of_grant, setpoint_frame?, frame_asks?, asks_by?, means_by?, after_frame, own_reply_to, denial_to, frame_in, flow_channel}
 use Rattle.runs.specs.Damage.{Damaged, CommunicationError}
 use Rattle.runs.specs.Devices.{DeviceLaws}
 use Rattle.runs.proofs.Answers.{wide, content_answer, status_answer}
@@ -85,7 +85,7 @@ module _ (f : Parts) (w : Wide f) where
     abbrev Grants : Bool → Granted
     Grants b = cond b (option_map_or (after_command f.«data» (granted_in r)) (command_of f.command) (granted_in r)) (granted_in r)
 
-    served_grant_of : granted_in (after_frame x r f) ≡ after_reply f (granted_in r) (reply_to x r f)
+    served_grant_of : granted_in (after_frame x r f) ≡ after_reply f (granted_in r) (own_reply_to x r f)
     served_grant_of =
         judgements (λ j. granted_in (changed_by j r) ≡ Grants (Told Success j)) x f r.fields
         (λ _. rw (error_differs x 0 (omega arith)) refl)
@@ -93,13 +93,13 @@ module _ (f : Parts) (w : Wide f) where
         (λ code c _. rw c refl)
         ∙ sym (ap Grants (told Success (own_judgement x f r.fields) (after_frame x r f)))
 
-    reply_differs_of : tells? AccessRestricted (reply_to x r f) ≡ false
+    reply_differs_of : tells? AccessRestricted (own_reply_to x r f) ≡ false
     reply_differs_of =
         told AccessRestricted (own_judgement x f r.fields) (after_frame x r f)
         ∙ judgements (λ j. Told AccessRestricted j ≡ false) x f r.fields (λ _. error_differs x 16 (omega arith)) (λ _ _ _ _. refl) (λ _ _ d. d)
 
     -- a command that asks for nothing leaves the setpoint
-    served_share_of : asks? x r f ≡ false → (granted_in (after_frame x r f)).setpoint ≡ r.fields.setpoint
+    served_share_of : frame_asks? x r f ≡ false → (granted_in (after_frame x r f)).setpoint ≡ r.fields.setpoint
     served_share_of a = judgements (λ j. (granted_in (changed_by j r)).setpoint ≡ r.fields.setpoint) x f r.fields
         (λ _. refl)
         (λ command s e c.
@@ -113,14 +113,14 @@ module _ (f : Parts) (w : Wide f) where
         ap (λ (g : Granted). g.setpoint) (edits_granted command f.«data» r) ∙ setpoint_kept command f.«data» (granted_in r) k)
         (λ _ _ _. refl)
 
-    asks_parts : asks? x r f ≡ true → (sound? x ≡ true) × (command_of f.command ≡ Some WriteSetpoint) × (success? (own_code (Some WriteSetpoint) f.«data» r.fields) ≡ true)
+    asks_parts : frame_asks? x r f ≡ true → (sound? x ≡ true) × (command_of f.command ≡ Some WriteSetpoint) × (success? (own_code (Some WriteSetpoint) f.«data» r.fields) ≡ true)
     asks_parts a =
         let p = and_parts (sound? x) (codes.asks? (command_of f.command) f.«data» r.fields) a in
-        let q = and_parts (setpoint? f) (success? (own_code (command_of f.command) f.«data» r.fields)) p.1 in
+        let q = and_parts (setpoint_frame? f) (success? (own_code (command_of f.command) f.«data» r.fields)) p.1 in
         let e = known_setpoint (command_of f.command) q.0 in
         (p.0, e, rw e at q.1)
 
-    asked_setpoint_of : asks? x r f ≡ true → (granted_in (after_frame x r f)).setpoint ≡ stored_pattern (pattern_in f.«data»)
+    asked_setpoint_of : frame_asks? x r f ≡ true → (granted_in (after_frame x r f)).setpoint ≡ stored_pattern (pattern_in f.«data»)
     asked_setpoint_of a =
         let p = asks_parts a in
         let s = p.0 in
@@ -148,7 +148,7 @@ and_true false = refl
 untagged : (o : Option Command) (n : ℕ) (bytes tag : List ℕ) → known? codes.setpoint? o ≡ true → tag_means? (option_map_or (λ c. asked_of c bytes) o (bare n)) tag ≡ true
 untagged o n bytes tag e = let k = known_setpoint o e in rw k refl
 
-meant_by_of : (f : Parts) (r : Record) → setpoint? f ≡ true → means? f r ≡ means_by? (nameplate r) (granted_in r) f
+meant_by_of : (f : Parts) (r : Record) → setpoint_frame? f ≡ true → means? f r ≡ means_by? (nameplate r) (granted_in r) f
 meant_by_of f r e = let m = means_by? (nameplate r) (granted_in r) f in ap (λ b. m && b) (untagged (command_of f.command) f.command f.«data» (tag_of r) e) ∙ and_true m
 
 -- local operations
@@ -186,7 +186,7 @@ module _ (t : List Character) (r : Record) where
   nameplate_law (Some f) e = served_nameplate_of f (wide_in t f e) (received t) r
   nameplate_law None e = refl
 
-  grant_law : At (λ o. granted_in (served o) ≡ made o (granted_in r) (λ f. after_reply f (granted_in r) (made o [] (reply_to (received t) r))))
+  grant_law : At (λ o. granted_in (served o) ≡ made o (granted_in r) (λ f. after_reply f (granted_in r) (made o [] (own_reply_to (received t) r))))
   grant_law (Some f) e = served_grant_of f (wide_in t f e) (received t) r
   grant_law None e = refl
 
@@ -194,15 +194,15 @@ module _ (t : List Character) (r : Record) where
   denied_law (Some f) e = denied_grant_of f (wide_in t f e) r
   denied_law None e = refl
 
-  kept_law : At (λ o. made o false (asks? (received t) r) ≡ false → (granted_in (served o)).setpoint ≡ r.fields.setpoint)
+  kept_law : At (λ o. made o false (frame_asks? (received t) r) ≡ false → (granted_in (served o)).setpoint ≡ r.fields.setpoint)
   kept_law (Some f) e = served_share_of f (wide_in t f e) (received t) r
   kept_law None e = λ _. refl
 
-  asked_law : At (λ o. made o false (asks? (received t) r) ≡ true → share_of_grant (nameplate r) (granted_in (served o)) ≡ made o 0 (λ f. asked_share f.«data» r.fields.full_scale))
+  asked_law : At (λ o. made o false (frame_asks? (received t) r) ≡ true → share_of_grant (nameplate r) (granted_in (served o)) ≡ made o 0 (λ f. asked_share f.«data» r.fields.full_scale))
   asked_law (Some f) e = λ a. ap (λ p. share_of (load_of (value_of p)) r.fields.full_scale) (asked_setpoint_of f (wide_in t f e) (received t) r a) ∙ ap (λ l. share_of l r.fields.full_scale) (load_stored (pattern_in f.«data»))
   asked_law None e = λ a. absurd (true≢false (sym a))
 
-  differs_law : At (λ o. made o false (λ f. means? f r) ≡ true → tells? AccessRestricted (made o [] (reply_to (received t) r)) ≡ false)
+  differs_law : At (λ o. made o false (λ f. means? f r) ≡ true → tells? AccessRestricted (made o [] (own_reply_to (received t) r)) ≡ false)
   differs_law (Some f) e = λ _. reply_differs_of f (wide_in t f e) (received t) r
   differs_law None e = λ m. absurd (true≢false (sym m))
 
@@ -210,15 +210,15 @@ module _ (t : List Character) (r : Record) where
   denial_law (Some f) e = λ _. denial_is_of f (wide_in t f e) r
   denial_law None e = λ m. absurd (true≢false (sym m))
 
-  command_law : At (λ o. made o false (asks? (received t) r) ≡ true → made o false setpoint? ≡ true)
+  command_law : At (λ o. made o false (frame_asks? (received t) r) ≡ true → made o false setpoint_frame? ≡ true)
   command_law (Some f) e = λ a. ap (known? codes.setpoint?) (asks_parts f (wide_in t f e) (received t) r a).1
   command_law None e = λ a. a
 
-  asks_law : At (λ o. made o false (asks? (received t) r) ≡ made o false (asks_by? (received t) (nameplate r) (granted_in r)))
+  asks_law : At (λ o. made o false (frame_asks? (received t) r) ≡ made o false (asks_by? (received t) (nameplate r) (granted_in r)))
   asks_law (Some f) e = ap (λ b. sound? (received t) && b) (asks_own (command_of f.command) f.«data» r)
   asks_law None e = refl
 
-  meant_law : At (λ o. made o false setpoint? ≡ true → made o false (λ f. means? f r) ≡ made o false (means_by? (nameplate r) (granted_in r)))
+  meant_law : At (λ o. made o false setpoint_frame? ≡ true → made o false (λ f. means? f r) ≡ made o false (means_by? (nameplate r) (granted_in r)))
   meant_law (Some f) e = meant_by_of f r
   meant_law None e = λ _. refl
 
@@ -226,11 +226,11 @@ module _ (t : List Character) (r : Record) where
   unserved_law d (Some f) e = ap (λ (j : Judgement). changed_by j r) (damaged_judgement t f r e d)
   unserved_law d None e = refl
 
-  unasked_law : Damaged t → At (λ o. made o false (asks? (received t) r) ≡ false)
+  unasked_law : Damaged t → At (λ o. made o false (frame_asks? (received t) r) ≡ false)
   unasked_law d (Some f) e = rw (damaged_false t f e d) refl
   unasked_law d None e = refl
 
-  error_law : Damaged t → At (λ o. made o false (λ f. means? f r) ≡ true → CommunicationError (made o [] (reply_to (received t) r)))
+  error_law : Damaged t → At (λ o. made o false (λ f. means? f r) ≡ true → CommunicationError (made o [] (own_reply_to (received t) r)))
   error_law d (Some f) e = λ _. record {
     status = error_status (received t);
     carries =

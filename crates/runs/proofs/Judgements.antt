@@ -21,7 +21,7 @@ use Rattle.line.specs.declared.codes.ResponseCode.{ResponseCode}
 use Rattle.line.specs.declared.codes.ResponseCode.TheVariants.{AccessRestricted}
 use Rattle.line.specs.declared.commands.Command.{Command}
 use Rattle.line.specs.declared.commands.Command.TheVariants.{WriteSetpoint}
-use Rattle.runs.specs.Channel.{pattern_in, asks?}
+use Rattle.runs.specs.Channel.{pattern_in, frame_asks?}
 use Rattle.runs.proofs.Effects.{Tested}
 
 above : (c n : ℕ) → not (leb n c) ≡ ltb c n
@@ -60,7 +60,7 @@ split (Some command) bytes f a = refl
 
 -- a setpoint command that asks for more than the others leave is refused by the header; every other is judged by the channel alone
 pub judgement_split : (x : Reception) (f : Parts) (r : Record) (a : Allotment)
-    → judgement x f r.fields a ≡ cond (asks? x r f && ltb (capacity_of a.supply) (a.others + asked_share f.«data» r.fields.full_scale)) (refused AccessRestricted) (own_judgement x f r.fields)
+    → judgement x f r.fields a ≡ cond (frame_asks? x r f && ltb (capacity_of a.supply) (a.others + asked_share f.«data» r.fields.full_scale)) (refused AccessRestricted) (own_judgement x f r.fields)
 judgement_split x f r a = elim (cases_Bool (sound? x)) [
   | inr s ↦ rw s refl
   | inl s ↦ rw s (split (command_of f.command) f.«data» r.fields a)

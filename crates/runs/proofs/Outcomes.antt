@@ -10,7 +10,7 @@ use Rattle.runs.proofs.Places.{none_some, not_some, get_at, at_get, only_place_l
 
 module _ (D : Device) (capacity : ℕ) where
   module _ (records : Rack D) (pending : Pending D) where
-    -- the transmission means just the channel at place k
+    -- the transmission means just the channel at this place
     answered_leads : {n place : ℕ} {r : D.Record} → 64 ≤ n → At records place r → Only D records pending place → Leads D capacity records pending (gap n) (answered_by D capacity records pending place (Some r))
     answered_leads {n} {place} {r} room a only =
         cond_both (exceeds? D capacity records pending place r) _ _ (Leads D capacity records pending (gap n))

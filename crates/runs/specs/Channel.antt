@@ -52,7 +52,8 @@ nameplate r = record {
   full_scale = r.fields.full_scale;
 }
 
--- What was granted to a channel, a term of this project: its setpoint, its polling address and its key, which the history tells.
+-- What was granted to a channel, a term of this project: its setpoint, its polling address and its key, which the
+-- history tells.
 pub record Granted : Type 0 where
   pub setpoint : ℕ
   pub polling_address : ℕ
@@ -69,7 +70,8 @@ granted_in r = record {
 abbrev pub pattern_in : List ℕ → ℕ
 pattern_in bytes = number32 bytes 1
 
--- An accepted setpoint command grants its setpoint, minus zero as zero, and an accepted polling address is granted. Nothing else is.
+-- An accepted setpoint command grants its setpoint, minus zero as zero, and an accepted polling address is granted.
+-- Nothing else is.
 abbrev pub after_command : List ℕ → Granted → Command → Granted
 after_command bytes grant WriteSetpoint = record grant { setpoint = stored_pattern (pattern_in bytes) }
 after_command bytes grant WritePollingAddress = record grant { polling_address = slice_index bytes 0 }
@@ -97,18 +99,18 @@ abbrev pub share_of_grant : Nameplate → Granted → ℕ
 share_of_grant p grant = share_of (load_of (value_of grant.setpoint)) p.full_scale
 
 -- whether a frame is a setpoint command
-abbrev pub setpoint? : Parts → Bool
-setpoint? f = known? codes.setpoint? (command_of f.command)
+abbrev pub setpoint_frame? : Parts → Bool
+setpoint_frame? f = known? codes.setpoint? (command_of f.command)
 
 -- whether it is, as received, a sound one past every refusal of the channel's own
-abbrev pub asks? : Reception → Record → Parts → Bool
-asks? x r f = sound? x && codes.asks? (command_of f.command) f.«data» r.fields
+abbrev pub frame_asks? : Reception → Record → Parts → Bool
+frame_asks? x r f = sound? x && codes.asks? (command_of f.command) f.«data» r.fields
 
--- the same by nameplate and history: sound, of its count, the key open, the unit code of percent in front, and a setpoint that the
--- ceiling admits
+-- the same by nameplate and history: sound, of its count, the key open, the unit code of percent in front, and a
+-- setpoint that the ceiling admits
 abbrev pub asks_by? : Reception → Nameplate → Granted → Parts → Bool
 asks_by? x p grant f =
-    sound? x && (setpoint? f && (counted? WriteSetpoint f.«data» && (grant.key_open && (percent? f.«data»
+    sound? x && (setpoint_frame? f && (counted? WriteSetpoint f.«data» && (grant.key_open && (percent? f.«data»
     && is_ok (admitted_under p.ceiling (value_of (pattern_in f.«data»)))))))
 
 -- whom a setpoint command means, by nameplate and granted polling address
@@ -116,15 +118,15 @@ abbrev pub means_by? : Nameplate → Granted → Parts → Bool
 means_by? p grant f = address_means? f.address grant.polling_address p.device_type p.identification
 
 -- the judgement of a frame that means a channel, where the header does not object
-abbrev pub judged : Reception → Record → Parts → Judgement
-judged x r f = own_judgement x f r.fields
+abbrev pub judged_alone : Reception → Record → Parts → Judgement
+judged_alone x r f = own_judgement x f r.fields
 
 -- the channel's record after it, and its answer
 abbrev pub after_frame : Reception → Record → Parts → Record
-after_frame x r f = changed_by (judged x r f) r
+after_frame x r f = changed_by (judged_alone x r f) r
 
-abbrev pub reply_to : Reception → Record → Parts → List ℕ
-reply_to x r f = answer_bytes f (judged x r f) (after_frame x r f)
+abbrev pub own_reply_to : Reception → Record → Parts → List ℕ
+own_reply_to x r f = answer_bytes f (judged_alone x r f) (after_frame x r f)
 
 -- its answer where the header objects, and the record stays
 abbrev pub denial_to : Record → Parts → List ℕ
@@ -147,9 +149,9 @@ flow_channel = record {
   Grant = Granted;
   acceptable? = λ c. nat_le c.marks all_marks;
   meant? = λ r pending. framed pending false (λ f. means? f r);
-  asks? = λ r pending. framed pending false (asks? (received pending) r);
+  asks? = λ r pending. framed pending false (frame_asks? (received pending) r);
   served = λ r pending. framed pending r (after_frame (received pending) r);
-  reply = λ r pending. framed pending [] (reply_to (received pending) r);
+  reply = λ r pending. framed pending [] (own_reply_to (received pending) r);
   denial = λ r pending. framed pending [] (denial_to r);
   denial? = tells? AccessRestricted;
   operated = λ r operation. record_after (written (edit_for operation) r) r;
@@ -160,7 +162,7 @@ flow_channel = record {
   after_operation = after_operation;
   share = share_of_grant;
   asked = λ p pending. framed pending 0 (λ f. asked_share f.«data» p.full_scale);
-  setpoint? = λ pending. framed pending false setpoint?;
+  setpoint? = λ pending. framed pending false setpoint_frame?;
   meant_by? = λ p grant pending. framed pending false (means_by? p grant);
   asks_by? = λ p grant pending. framed pending false (asks_by? (received pending) p grant);
   Damaged = Damaged;

@@ -42,7 +42,8 @@ pub record Device : Type 1 where
 -- what a device owes to the laws, of each of its records and each transmission
 pub record DeviceLaws (D : Device) : Type 0 where
   pub served_nameplate : (r : D.Record) (pending : List D.Character) → D.nameplate (D.served r pending) ≡ D.nameplate r
-  pub operated_nameplate : (r : D.Record) (operation : D.Operation) → D.nameplate (D.operated r operation) ≡ D.nameplate r
+  pub operated_nameplate : (r : D.Record) (operation : D.Operation)
+      → D.nameplate (D.operated r operation) ≡ D.nameplate r
   pub served_grant : (r : D.Record) (pending : List D.Character)
       → D.grant (D.served r pending) ≡ D.after_answer (D.grant r) pending (D.reply r pending)
   pub denied_grant : (r : D.Record) (pending : List D.Character) → D.asks? r pending ≡ true
@@ -62,7 +63,8 @@ pub record DeviceLaws (D : Device) : Type 0 where
   pub denial_is : (r : D.Record) (pending : List D.Character) → D.meant? r pending ≡ true → D.asks? r pending ≡ true
       → D.denial? (D.denial r pending) ≡ true
   -- a setpoint command is judged by nameplate and history
-  pub asks_setpoint : (r : D.Record) (pending : List D.Character) → D.asks? r pending ≡ true → D.setpoint? pending ≡ true
+  pub asks_setpoint : (r : D.Record) (pending : List D.Character) → D.asks? r pending ≡ true
+      → D.setpoint? pending ≡ true
   pub asks_by : (r : D.Record) (pending : List D.Character)
       → D.asks? r pending ≡ D.asks_by? (D.nameplate r) (D.grant r) pending
   pub meant_by : (r : D.Record) (pending : List D.Character) → D.setpoint? pending ≡ true

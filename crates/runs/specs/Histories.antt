@@ -61,7 +61,8 @@ module _ (D : Device) where
   abbrev pub standings_from : ℕ → Rack D → Trace D → List Standing
   standings_from place [] es = []
   standings_from place (r ∷ records) es =
-      record { nameplate = D.nameplate r; grant = granted place (D.grant r) [] es } ∷ standings_from (suc place) records es
+      record { nameplate = D.nameplate r; grant = granted place (D.grant r) [] es }
+      ∷ standings_from (suc place) records es
 
   abbrev pub standings : Rack D → Trace D → List Standing
   standings records es = standings_from 0 records es
@@ -108,9 +109,9 @@ module _ (D : Device) where
   abbrev pub taken_characters : Pending D → Trace D
   taken_characters pending = map (λ c. character c ▸ taken) pending
 
-  -- What a panel that holds the channel at this place alone gets of a call, with what it then answers: a transmission that the channel
-  -- answered, the header's refusals aside, as its characters and a gap with just the room that it wants; a local operation on the
-  -- channel as one on channel 0.
+  -- What a panel that holds the channel at this place alone gets of a call, with what it then answers: a transmission
+  -- that the channel answered, the header's refusals aside, as its characters and a gap with just the room that it
+  -- wants; a local operation on the channel as one on channel 0.
   abbrev pub lone_at : ℕ → Pending D → Call D → Result D → Trace D
   lone_at place pending (character c) result = []
   lone_at place pending (gap n) result = elim result [
@@ -126,4 +127,5 @@ module _ (D : Device) where
   -- the same of a trace, with these characters pending before it
   abbrev pub lone : ℕ → Pending D → Trace D → Trace D
   lone place pending [] = []
-  lone place pending (e ∷ es) = lone_at place pending e.call e.result ++ lone place (pending_next pending e.call e.result) es
+  lone place pending (e ∷ es) =
+      lone_at place pending e.call e.result ++ lone place (pending_next pending e.call e.result) es

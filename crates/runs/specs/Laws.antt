@@ -12,14 +12,16 @@ module _ (D : Device) where
   abbrev pub calls_of : Trace D → List (Call D)
   calls_of es = map (λ e. e.call) es
 
-  -- of the run from set-up with these records through a trace: its calls have no other results, no other records after them, and no
-  -- other pending characters
+  -- of the run from set-up with these records through a trace: its calls have no other results, no other records after
+  -- them, and no other pending characters
   abbrev pub Unique : ℕ → Rack D → Trace D → Rack D → Pending D → Type 0
   Unique capacity records trace after pending =
-      (es : Trace D) (records' : Rack D) (pending' : Pending D) → Run D capacity records [] es records' pending' → calls_of es ≡ calls_of trace
+      (es : Trace D) (records' : Rack D) (pending' : Pending D)
+      → Run D capacity records [] es records' pending' → calls_of es ≡ calls_of trace
       → (es ≡ trace) × (records' ≡ after) × (pending' ≡ pending)
 
-  -- The channel at this place, whose record was r at set-up and is r' after the trace, does what it does on a panel that holds it alone.
+  -- The channel at this place, whose record was r at set-up and is r' after the trace, does what it does on a panel
+  -- that holds it alone.
   pub record Isolated (capacity : ℕ) (place : ℕ) (r : D.Record) (trace : Trace D) (r' : D.Record) : Type 0 where
     -- that panel's set-up is taken
     pub fits : total D (r ∷ []) ≤ capacity
@@ -39,14 +41,15 @@ module _ (D : Device) where
 
   -- silence, or an answer that only tells a communication error
   abbrev pub ErrorAtMost : Result D → Type 0
-  ErrorAtMost result = (result ≡ silent) ⊎ ((place : ℕ) × (a : D.Answer) × (result ≡ answered place a) × D.CommunicationError a)
+  ErrorAtMost result =
+      (result ≡ silent) ⊎ ((place : ℕ) × (a : D.Answer) × (result ≡ answered place a) × D.CommunicationError a)
 
   -- the channel at this place answers by the header's refusal
   abbrev pub Denied : Result D → ℕ → Type 0
   Denied result place = (a : D.Answer) × (result ≡ answered place a) × (D.denial? a ≡ true)
 
-  -- The transmission is a setpoint command past every refusal but the header's, means just the channel at this place, and asks for
-  -- more than the granted shares of the others leave of the capacity, all judged by the standings.
+  -- The transmission is a setpoint command past every refusal but the header's, means just the channel at this place,
+  -- and asks for more than the granted shares of the others leave of the capacity, all judged by the standings.
   pub record Exceeds (capacity : ℕ) (standings : List (Standing D)) (pending : Pending D) (place : ℕ) : Type 0 where
     pub standing : Standing D
     pub stands : At standings place standing
@@ -55,24 +58,29 @@ module _ (D : Device) where
     pub meant : OnlyAt (λ s. D.meant_by? s.nameplate s.grant pending) standings place
     pub above : capacity < granted_others D standings place + D.asked standing.nameplate pending
 
-  -- the laws of a run from set-up with these records, nothing pending, to the records and the pending characters after it
-  pub record Kept (capacity : ℕ) (records : Rack D) (trace : Trace D) (after : Rack D) (pending : Pending D) : Type 0 where
+  -- the laws of a run from set-up with these records, nothing pending, to the records and the pending characters after
+  -- it
+  pub record Kept (capacity : ℕ) (records : Rack D) (trace : Trace D) (after : Rack D) (pending : Pending D)
+      : Type 0 where
     -- its calls have no other run
     pub unique : Unique capacity records trace after pending
     -- each channel does what it does alone
-    pub isolated : (place : ℕ) (r : D.Record) → At records place r → (r' : D.Record) × At after place r' × Isolated capacity place r trace r'
+    pub isolated : (place : ℕ) (r : D.Record) → At records place r
+        → (r' : D.Record) × At after place r' × Isolated capacity place r trace r'
     -- a character changes no record
     pub characters : (records₁ records₂ : Rack D) (pending₁ pending₂ : Pending D) (c : D.Character) (result : Result D)
         → Step D capacity records₁ pending₁ (character c ▸ result) records₂ pending₂ → records₂ ≡ records₁
     -- a gap that ends a damaged transmission changes none either, and gets no answer but a communication error
     pub damaged_rack : (before : Trace D) (n : ℕ) (result : Result D)
         → TakenGap trace before n result → D.Damaged (pending_after D [] before)
-        → (records₁ records₂ : Rack D) (pending₁ pending₂ : Pending D) → Run D capacity records [] before records₁ pending₁
+        → (records₁ records₂ : Rack D) (pending₁ pending₂ : Pending D)
+        → Run D capacity records [] before records₁ pending₁
         → Step D capacity records₁ pending₁ (gap n ▸ result) records₂ pending₂ → records₂ ≡ records₁
     pub damaged_result : (before : Trace D) (n : ℕ) (result : Result D)
         → TakenGap trace before n result → D.Damaged (pending_after D [] before) → ErrorAtMost result
     -- at every moment the granted shares fit the capacity
-    pub fits : (before later : Trace D) → trace ≡ before ++ later → granted_total D (standings D records before) ≤ capacity
+    pub fits : (before later : Trace D) → trace ≡ before ++ later
+        → granted_total D (standings D records before) ≤ capacity
     -- the header refuses exactly what exceeds the capacity
     pub exact : (before : Trace D) (n : ℕ) (result : Result D) (place : ℕ) → TakenGap trace before n result
         → Denied result place ↔ Exceeds capacity (standings D records before) (pending_after D [] before) place
@@ -86,11 +94,13 @@ module _ (D : Device) where
   -- every run from a set-up that is taken keeps the laws
   abbrev pub Promise : ℕ → Type 0
   Promise capacity = (records after : Rack D) (trace : Trace D) (pending : Pending D)
-      → Run D capacity records [] trace after pending → total D records ≤ capacity → Kept capacity records trace after pending
+      → Run D capacity records [] trace after pending → total D records ≤ capacity
+      → Kept capacity records trace after pending
 
-  -- A run of a panel that holds the channel at this place alone, through a trace to records, beside a run of the whole panel: it has the
-  -- results and the record of that channel.
-  pub record Alike (place : ℕ) (trace : Trace D) (after : Rack D) (alone : Trace D) (alone_after : Rack D) : Type 0 where
+  -- A run of a panel that holds the channel at this place alone, through a trace to records, beside a run of the whole
+  -- panel: it has the results and the record of that channel.
+  pub record Alike (place : ℕ) (trace : Trace D) (after : Rack D) (alone : Trace D) (alone_after : Rack D)
+      : Type 0 where
     -- the calls of the channel, with the results that they had
     pub same_trace : alone ≡ lone D place [] trace
     -- the very record of the channel, in all its bytes

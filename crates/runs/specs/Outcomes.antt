@@ -28,7 +28,8 @@ module _ (D : Device) where
   exceeds? capacity records pending place r =
       D.asks? r pending && nat_lt capacity (others D records place + D.asked (D.nameplate r) pending)
 
-  -- the transmission has ended, and means just the channel at this place: of its record, which a rack has at such a place
+  -- the transmission has ended, and means just the channel at this place: of its record, which a rack has at such a
+  -- place
   abbrev pub answered_by : ℕ → Rack D → Pending D → ℕ → Option D.Record → Outcome
   answered_by capacity records pending place (Some r) =
       if exceeds? capacity records pending place r

@@ -3,12 +3,12 @@ use Rattle.std.specs.Prelude.{◌≡◌, ℕ, zero, suc, Bool, true, if◌then�
 use Rattle.std.specs.List.{list_all}
 use Rattle.std.specs.Option.{option_map}
 
--- the list has x at place k
+-- the list has x at this place
 pub data At {X : Type 0} : List X → ℕ → X → Type 0 where
   here : {x : X} {xs : List X} → At (x ∷ xs) zero x
   there : {x y : X} {xs : List X} {place : ℕ} → At xs place x → At (y ∷ xs) (suc place) x
 
--- the test holds at place k, and at no other
+-- the test holds at this place, and at no other
 pub record OnlyAt {X : Type 0} (test : X → Bool) (xs : List X) (place : ℕ) : Type 0 where
   pub holds : (x : X) → At xs place x → test x ≡ true
   pub alone : (j : ℕ) (x : X) → At xs j x → test x ≡ true → j ≡ place

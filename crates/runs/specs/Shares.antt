@@ -9,7 +9,7 @@ module _ {X : Type 0} where
   sum_of amount [] = 0
   sum_of amount (x ∷ xs) = amount x + sum_of amount xs
 
-  -- the same over all of the list but place k
+  -- the same over all of the list but this place
   abbrev pub sum_but : (X → ℕ) → List X → ℕ → ℕ
   sum_but amount [] place = 0
   sum_but amount (x ∷ xs) zero = sum_of amount xs
@@ -22,6 +22,6 @@ module _ (D : Device) where
   abbrev pub total : Rack D → ℕ
   total records = sum_of share_of records
 
-  -- the shares of all channels but the one at place k
+  -- the shares of all channels but the one at this place
   abbrev pub others : Rack D → ℕ → ℕ
   others records place = sum_but share_of records place

@@ -19,7 +19,7 @@ use Rattle.line.specs.Judgements.{edits, changed_by, answer_bytes}
 use Rattle.line.specs.Whole.{frame_of}
 use Rattle.serving.specs.Answering.{Found, Ready, answering_of, FrameOf, Answers}
 use Rattle.serving.specs.Serving.{Answering, answering_by, answering_to, served, Serves, Lawfully, answering_in}
-use Rattle.serving.specs.Standing.{record_of}
+use Rattle.serving.specs.AskedChannels.{record_of}
 use Rattle.serving.specs.Writing.{Carried, CarriesOut}
 use Rattle.serving.specs.declared.answers.Answer.{Answer}
 use Rattle.serving.proofs.Chained.{held_after}
@@ -42,8 +42,8 @@ module _ {X : Type 0} (records : X → List Record) (wrote : WriteRelation X) (m
   held r is = held_after records wrote m.channel (edits m.judgement) x y r is (done r is).written
 
   -- the channel as it stands after the writes
-  pub standing : option_map (λ r. r.fields) (channel_of (records y) m.channel) ≡ Some fields'
-  standing =
+  pub asked_there : option_map (λ r. r.fields) (channel_of (records y) m.channel) ≡ Some fields'
+  asked_there =
       let t = there_is (λ r. r.fields) (channel_of (records x) m.channel) m.fields ready.there in
       rw (held t.0 t.1) (ap Some (sym (done t.0 t.1).fields_are))
 

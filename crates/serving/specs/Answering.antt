@@ -14,7 +14,7 @@ use Rattle.line.specs.Judgements.{Judgement, Writable}
 use Rattle.line.specs.Views.{judged}
 use Rattle.line.specs.Whole.{frame_of}
 use Rattle.serving.specs.Serving.{Answering, answering_by, answering_to, Serves}
-use Rattle.serving.specs.Standing.{fields_of}
+use Rattle.serving.specs.AskedChannels.{fields_of}
 use Rattle.serving.specs.declared.answering.Meant.{Meant}
 use Rattle.serving.specs.declared.answers.Answer.{Answer}
 

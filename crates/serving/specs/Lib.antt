@@ -1,6 +1,6 @@
+pub mod AskedChannels
 pub mod Reading
 pub mod Meant
 pub mod Serving
 pub mod Writing
-pub mod Standing
 pub mod Answering

@@ -4,7 +4,7 @@ ghost use Rattle.std.specs.Prelude.{◌≤◌, length};
 ghost use Rattle.line.specs.Answers.{answer_room};
 
 use crate::answers::Answer;
-use crate::asking::Standing;
+use crate::asking::AskedChannel;
 use crate::writing::carry_out;
 use frame::Frame;
 use line::{Judgement, reply};
@@ -39,12 +39,12 @@ impl<'a> Meant<'a> {
     {
         let channel = self.channel;
         let fields = carry_out(rack, channel, self.fields, self.judgement);
-        let standing = Standing {
+        let asked = AskedChannel {
             rack: &*rack,
             channel,
             fields,
         };
-        let length = reply(self.judgement, self.frame, &standing, out)?;
+        let length = reply(self.judgement, self.frame, &asked, out)?;
         Ok(Some(Answer { channel, length }))
     }
 }

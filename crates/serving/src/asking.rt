@@ -5,7 +5,7 @@ ghost use Rattle.rack.specs.Meaning.{most_channels};
 ghost use Rattle.runs.specs.Channel.{flow_channel};
 ghost use Rattle.runs.specs.Shares.{others};
 ghost use Rattle.serving.specs.Serving.{allotment_of};
-ghost use Rattle.serving.specs.Standing.{fields_of, record_of, standing_lawful};
+ghost use Rattle.serving.specs.AskedChannels.{fields_of, record_of, asked_lawful};
 
 use crate::reading::text_from;
 use line::{Allotting, LABELS_LENGTH, MESSAGE_LENGTH, ReplySource};
@@ -45,18 +45,18 @@ fn others_share<R: Rack>(rack: &R, channel: u8) -> u64
 
 /// A channel that there is, while nothing is written.
 #[derive(Drop)]
-pub(crate) struct Standing<'a, R: Rack> {
+pub(crate) struct AskedChannel<'a, R: Rack> {
     pub(crate) rack: &'a R,
     pub(crate) channel: u8,
     pub(crate) fields: Fields,
     ghost there: { fields_of (R.Rack.records rack.now) channel ≡ Some fields },
 }
 
-impl<'a, R: Rack> ReplySource for Standing<'a, R> {
-    ghost channel_record = { λ s. record_of (R.Rack.records s.rack.now) s.channel };
+impl<'a, R: Rack> ReplySource for AskedChannel<'a, R> {
+    ghost channel_record = { λ a. record_of (R.Rack.records a.rack.now) a.channel };
 
-    ghost lawful = { λ s.
-        standing_lawful (R.Rack.records s.rack.now) s.channel (R.Rack.lawful s.rack.now) };
+    ghost lawful = { λ a.
+        asked_lawful (R.Rack.records a.rack.now) a.channel (R.Rack.lawful a.rack.now) };
 
     fn fields(&self) -> Fields {
         self.fields

@@ -4,13 +4,13 @@ use Rattle.std.specs.List.{list_any}
 use Rattle.std.specs.Option.{option_map}
 use Rattle.std.specs.Result.{result_err}
 use Rattle.header.specs.Shares.{total_share, fits?}
-use Rattle.rack.specs.Meaning.{channel_of}
+use Rattle.rack.specs.Meaning.{channel_of, most_channels}
 use Rattle.record.specs.declared.Fields.{Fields}
 use Rattle.record.specs.declared.Record.{Record}
 use Rattle.refusals.specs.Refusals.{number_of}
 use Rattle.refusals.specs.declared.Refusal.{Refusal}
 use Rattle.refusals.specs.declared.Refusal.TheVariants.{Supply, NumberOfRecords, SameIdentity, OverSupply}
-use Rattle.runs.specs.SetUps.{largest_supply, most_channels}
+use Rattle.runs.specs.SetUps.{largest_supply}
 
 -- The identity of a channel is its device type and its identification number.
 abbrev pub same_identity? : Fields → Fields → Bool
@@ -49,8 +49,8 @@ shares_fit? supply records = nat_le (length records) most_channels && fits? supp
 abbrev pub refusal_in : Result (Unit {0}) Refusal → Option ℕ
 refusal_in result = option_map number_of (result_err result)
 
--- The number by which a set-up is refused, if it is. Tried in this order: the supply is above the largest, there are too many
--- channels, two have the same identity, the shares do not fit.
+-- The number by which a set-up is refused, if it is. Tried in this order: the supply is above the largest, there are
+-- too many channels, two have the same identity, the shares do not fit.
 abbrev pub set_up_refusal : ℕ → List Record → Option ℕ
 set_up_refusal supply records =
     if nat_lt largest_supply supply then Some (number_of Supply)

@@ -2,7 +2,8 @@
 #![tactic(auto)]
 
 ghost use Rattle.std.specs.Prelude.{◌≡◌, ◌≤◌, length, drop, IsOk, OnOk};
-ghost use Rattle.runs.specs.SetUps.{SetUp, most_channels};
+ghost use Rattle.rack.specs.Meaning.{most_channels};
+ghost use Rattle.runs.specs.SetUps.{SetUp};
 ghost use Rattle.setup.specs.SetUps.{identity_at?, among?, same_identity_later?, any_same_identity?, shares_fit?, refusal_in, set_up_refusal};
 
 use rack::{MAX_CHANNELS, Rack};

@@ -1,10 +1,10 @@
 use Rattle.serving.specs.Answering.{view_of}
-use Rattle.serving.proofs.Answered.{standing, answered}
+use Rattle.serving.proofs.Answered.{asked_there, answered}
 use Rattle.serving.proofs.answering.Meant.answer.Goals as goal
 
-pub invariant_of-standing : goal.invariant_of-standing
-invariant_of-standing g c =
-    record { there = standing g.R.Rack.records g.R.Rack.wrote (view_of c.args.self) c.carry_out-fields.result c.args.rack.now c.carry_out-fields.new.rack c.requires.ready c.carry_out-fields.ensures }
+pub invariant_of-asked : goal.invariant_of-asked
+invariant_of-asked g c =
+    record { there = asked_there g.R.Rack.records g.R.Rack.wrote (view_of c.args.self) c.carry_out-fields.result c.args.rack.now c.carry_out-fields.new.rack c.requires.ready c.carry_out-fields.ensures }
 
 pub returns : goal.returns
 returns g c =

@@ -30,9 +30,9 @@ blank_lawful = record {
   full_scale = refl;
 }
 
-pub standing_lawful : (records : List Record) (channel : ℕ)
+pub asked_lawful : (records : List Record) (channel : ℕ)
     → AllByRecursion Lawful records → LawfulFields (record_of records channel).fields
-standing_lawful records channel lawful = go (channel_of records channel) refl
+asked_lawful records channel lawful = go (channel_of records channel) refl
   where
     go : (o : Option Record) → channel_of records channel ≡ o
         → LawfulFields (unwrap_or o blank_record).fields
