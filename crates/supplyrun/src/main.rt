@@ -7,7 +7,15 @@ use recording::Format;
 use shelf::rack_file;
 use std::{env, fs};
 
+const USAGE: &str = "usage: supplyrun SUPPLY < RECORDING
+
+Plays a recording on the rack of rack.rec, under SUPPLY mL/min, a decimal number from 0 to 4294967295.";
+
 fn main(rt: HostRuntime) -> anyhow::Result<()> {
+    if wants_help(&rt)? {
+        println!(rt; "{USAGE}")?;
+        return Ok(());
+    }
     let supply = supply(&rt)?;
     let file = fs::read(&rt, rack_file()).context(rack_file())?;
     player::run(
@@ -19,6 +27,13 @@ fn main(rt: HostRuntime) -> anyhow::Result<()> {
         rt.stdout(),
     )?;
     Ok(())
+}
+
+// Whether the one argument asks for help.
+fn wants_help(rt: &HostRuntime) -> anyhow::Result<bool> {
+    let mut words = env::args(rt)?;
+    words.next();
+    Ok(words.next().is_some_and(|word| word.as_str() == "--help"))
 }
 
 // The supply, from the one argument: a decimal number.

@@ -12,7 +12,7 @@ pub(crate) const SUPPLY: u32 = 600_000;
 
 // The panel's rack, from its records.
 pub(crate) fn load(rt: &HostRuntime) -> anyhow::Result<Shelf> {
-    let file = fs::read(rt, rack_file())?;
+    let file = fs::read(rt, rack_file()).context(rack_file())?;
     let mut shelf = Shelf::blank();
     shelf.fill(file.as_slice())?;
     Ok(shelf)
