@@ -7,7 +7,7 @@ mod filling;
 mod shelf;
 mod shelf_rack;
 
-pub use shelf::Shelf;
+pub use shelf::{MAX_RECORDS, Shelf};
 
 /// The record file of a program that has a shelf, in the folder that it is run in.
 pub fn rack_file() -> &'static str

@@ -8,8 +8,10 @@ use arrayvec::ArrayVec;
 use rack::MAX_CHANNELS;
 use record::RECORD_LENGTH;
 
-// The most records of a shelf.
-pub(crate) const MAX_RECORDS: usize = MAX_CHANNELS as usize;
+/// The most records of a shelf.
+pub const MAX_RECORDS: usize = MAX_CHANNELS as usize;
+
+const _: () = prove!(MAX_RECORDS == 15);
 
 /// A shelf: 1 to 15 records, held as bytes.
 #[derive(Drop)]
