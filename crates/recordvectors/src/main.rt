@@ -12,6 +12,9 @@ use shelf::Shelf;
 use single::Single;
 use tables::{Byte, Checked, Filled, to_bytes};
 
+// What is told of a record of more or fewer bytes: the language's words for a slice that is no array of a length.
+const ANOTHER_LENGTH: &str = "could not convert slice to array";
+
 fn main(rt: HostRuntime) -> anyhow::Result<()> {
     run(&rt)
 }
@@ -27,22 +30,26 @@ fn run(rt: &HostRuntime) -> anyhow::Result<()> {
 }
 
 fn call(rt: &HostRuntime, words: &[&str]) -> anyhow::Result<()> {
-    let [call, bytes, rest @ ..] = words else {
-        return Err(anyhow!("a line with no call"));
-    };
-    let bytes = to_bytes(rt.alloc(), bytes)?;
-    let bytes = bytes.as_slice();
-    match (*call, rest) {
-        ("record", []) => {
-            let checked = Checked::of(bytes).context("a record of another length")?;
+    match words {
+        ["record", row] => {
+            let row = to_bytes(rt.alloc(), row)?;
+            let checked = Checked::of(row.as_slice()).context(ANOTHER_LENGTH)?;
             println!(rt; "{checked}")?
         }
-        ("shelf", []) => println!(rt; "{}", Filled::by(&mut Shelf::blank(), bytes))?,
-        ("single", []) => println!(rt; "{}", Filled::by(&mut Single::blank(), bytes))?,
-        ("text", [place]) => {
+        ["shelf", file] => {
+            let file = to_bytes(rt.alloc(), file)?;
+            println!(rt; "{}", Filled::by(&mut Shelf::blank(), file.as_slice()))?
+        }
+        ["single", file] => {
+            let file = to_bytes(rt.alloc(), file)?;
+            println!(rt; "{}", Filled::by(&mut Single::blank(), file.as_slice()))?
+        }
+        ["text", row, place] => {
+            let place = place.parse::<u8>()?;
+            let row = to_bytes(rt.alloc(), row)?;
             let mut single = Single::blank();
-            single.fill(bytes)?;
-            println!(rt; "{}", Byte(single.text_byte(0, place.parse()?)))?
+            single.fill(row.as_slice())?;
+            println!(rt; "{}", Byte(single.text_byte(0, place)))?
         }
         _ => return Err(anyhow!("a line with no call")),
     }
