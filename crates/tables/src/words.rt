@@ -1,6 +1,7 @@
 //! Words of a table of calls: bytes and patterns in capital hexadecimal, and '-' where there are no bytes.
 
 ghost use Rattle.std.specs.Prelude.{◌≡◌, IfOk, Some, string_bytes};
+ghost use Rattle.hexdigits.specs.Answers.{Reads as ReadsHex};
 ghost use Rattle.tables.specs.Words.{word_of, bytes_at, maybe_empty_at, pattern_at, pattern_joined};
 ghost use Rattle.tables.specs.Answers.{Reads, told_of, words_of};
 
@@ -60,13 +61,13 @@ pub fn to_bytes(heap: Global, word: &str) -> Result<Vec<u8>, WordFault>
     }
 }
 
-/// The bytes of a word that may also be empty.
-pub fn bytes_of(heap: Global, word: &str) -> Result<Vec<u8>, WordFault>
-    ensures { Reads (maybe_empty_at word.now) result }
+/// The bytes of a word that may also be empty. The fault of another is that of its digits.
+pub fn bytes_of(heap: Global, word: &str) -> Result<Vec<u8>, HexFault>
+    ensures { ReadsHex (maybe_empty_at word.now) result }
 {
     match word {
-        "" => Ok(Vec::new(heap)),
-        word => to_bytes(heap, word),
+        "-" | "" => Ok(Vec::new(heap)),
+        digits => parse_hex(heap, digits.as_bytes()),
     }
 }
 

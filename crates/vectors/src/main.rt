@@ -57,13 +57,14 @@ fn make(rt: &HostRuntime, parts: &[&str], length: &str) -> anyhow::Result<()> {
     };
     let address = bytes_of(rt.alloc(), address)?;
     let data = bytes_of(rt.alloc(), data)?;
+    // The buffer first: of two words out of form the length is told.
+    let mut out = lent(rt, length)?;
     let request = RequestParts {
         preambles: preambles.parse()?,
         address: address.as_slice(),
         command: command.parse()?,
         data: data.as_slice(),
     };
-    let mut out = lent(rt, length)?;
     let answer = frame::make_request(request, out.as_mut_slice());
     tell(rt, answer, out.as_slice())
 }
