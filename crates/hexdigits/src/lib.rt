@@ -96,11 +96,12 @@ pub fn to_hex(heap: Global, bytes: &[u8]) -> Result<String, AllocError>
     format!(in heap; "{}", Hex(bytes))
 }
 
-/// Appends the digits of `bytes`; where memory is short, the text is as it was.
+/// Appends the digits of `bytes`, which read back to them; where memory is short, the text is as it was.
 pub fn push_hex(text: &mut Vec<u8>, bytes: &[u8]) -> Result<(), AllocError>
     ensures text { text.new.items ≡
         text.old.items ++ (if is_ok result then hex_of bytes.now else []) }
     ensures front { take (length text.old.items) text.new.items ≡ text.old.items }
+    ensures back { bytes_of (hex_of bytes.now) ≡ Some bytes.now }
 {
     let length = text.len();
     let pushed = push_parts(text, bytes);
