@@ -4,7 +4,7 @@ ghost use Rattle.std.specs.Prelude.{◌≡◌, ℕ, false, List, length, Some, i
 ghost use Rattle.std.specs.Option.{option_map};
 ghost use Rattle.std.specs.Result.{result_err};
 ghost use Rattle.rack.specs.Files.{file_records};
-ghost use Rattle.recording.specs.Recordings.{events_of};
+ghost use Rattle.recording.specs.Recordings.{events_of, CutAnywhere};
 ghost use Rattle.stream.specs.Interruptions.{CanInterrupt};
 ghost use Rattle.player.specs.Playing.{play_refusal, fault_seen, play_fault, Played, output_behind};
 ghost use Rattle.player.specs.Sections.{AllPrintedSo};
@@ -99,6 +99,7 @@ pub fn run<R: Read + Drop, W: Write + Drop>(
         (λ w. W.Write.contents w ≡ output_behind out format supply file.now bytes)
         (CanInterrupt (length (events_of bytes))) }
     ensures promised { AllPrintedSo format supply file.now }
+    ensures cuts { CutAnywhere }
 {
     let mut player = Player::new(heap, format, input, output);
     let mut buffer = [0; MAX_ROOM];

@@ -1,6 +1,7 @@
 use Rattle.std.proofs.Common.{◌+◌, suc, length, ◌++◌, [], true, Ok, refl, ap, ◌∙◌, arith}
 use Rattle.panel.specs.Panels.{records_in}
 use Rattle.rack.specs.Files.{file_records}
+use Rattle.recording.proofs.Cuts.{cut_anywhere}
 use Rattle.recording.specs.Events.{pauses}
 use Rattle.recording.specs.Lines.{refusal_line, rest_line}
 use Rattle.recording.specs.Recordings.{events_of, rest_of}
@@ -32,6 +33,9 @@ returns-in-Err-clause-printed g c = λ bytes out e f.
 pub returns-in-Err-clause-promised : goal.returns-in-Err-clause-promised
 returns-in-Err-clause-promised g c = all_printed c.args.format c.args.supply c.args.file.now
 
+pub returns-in-Err-clause-cuts : goal.returns-in-Err-clause-cuts
+returns-in-Err-clause-cuts g c = cut_anywhere
+
 pub loop-init : goal.loop-init
 loop-init g c = (
   c.play.auto.buffer,
@@ -53,6 +57,9 @@ loop-init g c = (
 pub returns-in_err-attend-in-Waiting-clause-promised : goal.returns-in_err-attend-in-Waiting-clause-promised
 returns-in_err-attend-in-Waiting-clause-promised g c = all_printed c.args.format c.args.supply c.args.file.now
 
+pub returns-in_err-attend-in-Waiting-clause-cuts : goal.returns-in_err-attend-in-Waiting-clause-cuts
+returns-in_err-attend-in-Waiting-clause-cuts g c = cut_anywhere
+
 pub returns-in-Ended-clause-printed : goal.returns-in-Ended-clause-printed
 returns-in-Ended-clause-printed g c = λ bytes out e f.
     let i = c.loop.invariant.1 bytes out e f in
@@ -64,17 +71,26 @@ returns-in-Ended-clause-printed g c = λ bytes out e f.
 pub returns-in-Ended-clause-promised : goal.returns-in-Ended-clause-promised
 returns-in-Ended-clause-promised g c = all_printed c.args.format c.args.supply c.args.file.now
 
+pub returns-in-Ended-clause-cuts : goal.returns-in-Ended-clause-cuts
+returns-in-Ended-clause-cuts g c = cut_anywhere
+
 pub returns-in-Interrupted-clause-printed : goal.returns-in-Interrupted-clause-printed
 returns-in-Interrupted-clause-printed g c = λ bytes out e f. let i = c.loop.invariant.1 bytes out e f in rw c.in-Interrupted.is at i.5
 
 pub returns-in-Interrupted-clause-promised : goal.returns-in-Interrupted-clause-promised
 returns-in-Interrupted-clause-promised g c = all_printed c.args.format c.args.supply c.args.file.now
 
+pub returns-in-Interrupted-clause-cuts : goal.returns-in-Interrupted-clause-cuts
+returns-in-Interrupted-clause-cuts g c = cut_anywhere
+
 pub returns-in-Going-clause-printed : goal.returns-in-Going-clause-printed
 returns-in-Going-clause-printed g c = λ bytes out e f. let i = c.loop.invariant.1 bytes out e f in rw c.in-Going.is at i.5
 
 pub returns-in-Going-clause-promised : goal.returns-in-Going-clause-promised
 returns-in-Going-clause-promised g c = all_printed c.args.format c.args.supply c.args.file.now
+
+pub returns-in-Going-clause-cuts : goal.returns-in-Going-clause-cuts
+returns-in-Going-clause-cuts g c = cut_anywhere
 
 pub loop-preserved : goal.loop-preserved
 loop-preserved g c = (
@@ -95,3 +111,6 @@ returns-clause-printed g c = λ bytes out e f. let i = c.loop.invariant.1 bytes 
 
 pub returns-clause-promised : goal.returns-clause-promised
 returns-clause-promised g c = all_printed c.args.format c.args.supply c.args.file.now
+
+pub returns-clause-cuts : goal.returns-clause-cuts
+returns-clause-cuts g c = cut_anywhere
