@@ -10,6 +10,9 @@ use std::ops::Range;
 /// How many bytes of a recording a block has room for: as many whole events as 64 KiB hold, so that none is cut where it ends.
 pub(crate) const BLOCK_LENGTH: usize = 5461 * EVENT_LENGTH;
 
+/// How many bytes each read has room for at least: where it takes a part of what came as one, as of a packet, the rest may be lost.
+pub(crate) const LEAST_ROOM: usize = 4096;
+
 /// A recording that is read by blocks. Lines are kept until more of it is read.
 #[derive(Drop)]
 pub struct EventStream<R: Drop, W: Drop> {

@@ -1,15 +1,15 @@
 //! Events as they are read, and lines as they are written.
 
-ghost use Rattle.std.specs.Prelude.{◌≡◌, ◌<◌, true, None, [], length, is_ok, IsOk, IfOk, IfErr, OnOk, OnErr};
+ghost use Rattle.std.specs.Prelude.{◌≡◌, ◌+◌, ◌<◌, ◌≤◌, true, None, [], length, is_ok, IsOk, IfOk, IfErr, OnOk, OnErr};
 ghost use Rattle.std.specs.Option.{option_to_list};
 ghost use Rattle.std.specs.Vec.{vec_allocator};
 ghost use Rattle.calls.specs.Views.{result_of};
 ghost use Rattle.recording.specs.Lines.{line_of};
-ghost use Rattle.stream.specs.Blocks.{block_length};
+ghost use Rattle.stream.specs.Blocks.{block_length, least_room};
 ghost use Rattle.stream.specs.Interruptions.{OfStream, Finishes};
 ghost use Rattle.stream.specs.Streams.{unread_of, WholeEvent, NoWholeEvent, view_of, begun, with_told, with_rest, TakesWhole, OutputHolds, WrittenOut, WrittenFirst, NoneLost, Gives, TakesNext, ReadOn};
 
-use crate::events::{BLOCK_LENGTH, EventStream};
+use crate::events::{BLOCK_LENGTH, EventStream, LEAST_ROOM};
 use crate::interruption::Interruption;
 use calls::Response;
 use recording::{EVENT_LENGTH, push_line};
@@ -110,16 +110,20 @@ impl<R: Read + Drop, W: Write + Drop> EventStream<R, W> {
         Ok(came > 0)
     }
 
-    // Begins the block anew where it is full: no event is cut at its end, so that all of it was taken.
+    // Begins the block anew where a read might find too little room. No whole event is left then: what is unread is the part of one,
+    // and stands in front from now on.
     fn make_room(&mut self)
         ensures unread { NoWholeEvent self.old → unread_of self.new ≡ unread_of self.old }
-        ensures room { self.new.unread.end < block_length }
+        ensures room { self.new.unread.end + least_room ≤ block_length }
         ensures input { self.new.input ≡ self.old.input }
         ensures output { self.new.output ≡ self.old.output }
         ensures lines { self.new.lines ≡ self.old.lines }
     {
-        if self.unread.end == BLOCK_LENGTH {
-            self.unread = 0..0;
+        let end = self.unread.end;
+        if end > BLOCK_LENGTH - LEAST_ROOM {
+            let part = end % EVENT_LENGTH;
+            self.block.copy_within(end - part..end, 0);
+            self.unread = 0..part;
         }
     }
 
