@@ -9,3 +9,10 @@ going? Going = true
 going? (Waiting pause) = false
 going? Ended = false
 going? (Interrupted interruption) = false
+
+-- it was not interrupted: no line was lost, and the input did not fail
+abbrev pub complete? : Progress → Bool
+complete? Going = true
+complete? (Waiting pause) = true
+complete? Ended = true
+complete? (Interrupted interruption) = false

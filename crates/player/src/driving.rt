@@ -2,6 +2,7 @@
 
 ghost use Rattle.std.specs.Prelude.{◌≡◌};
 ghost use Rattle.player.specs.Players.{Asks, Names, Hears, Ends};
+ghost use Rattle.player.specs.Progress.{complete?};
 ghost use Rattle.player.specs.declared.progress.Progress.TheVariants.{Going};
 ghost use Rattle.stream.specs.Streams.{view_of, begun};
 
@@ -35,6 +36,13 @@ impl<R: Read + Drop, W: Write + Drop> Player<R, W> {
             format,
             progress: Progress::Going,
         }
+    }
+
+    /// Whether no line was lost, and the input did not fail.
+    pub fn is_complete(&self) -> bool
+        ensures { result ≡ complete? self.now.progress }
+    {
+        self.progress.is_complete()
     }
 }
 

@@ -1,7 +1,7 @@
 //! How far a player has come.
 
 ghost use Rattle.std.specs.Prelude.{◌≡◌};
-ghost use Rattle.player.specs.Progress.{going?};
+ghost use Rattle.player.specs.Progress.{going?, complete?};
 
 use recording::Pause;
 use stream::Interruption;
@@ -25,5 +25,12 @@ impl Progress {
         ensures { result ≡ going? self }
     {
         matches!(self, Progress::Going)
+    }
+
+    /// Whether it was not interrupted.
+    pub fn is_complete(self) -> bool
+        ensures { result ≡ complete? self }
+    {
+        !matches!(self, Progress::Interrupted(_))
     }
 }
