@@ -23,12 +23,16 @@ pub record Reception : Type 0 where
   pub span : List ℕ
   pub marks : ℕ
 
-abbrev pub received : List Character → Reception
-received characters = record {
-  preambles = preambles_of (bytes_in characters);
-  span = span_of (bytes_in characters);
-  marks = fold bit_or 0 (drop (preambles_of (bytes_in characters)) (map (λ c. c.marks) characters));
+-- of bytes and of marks in their order: marks that are missing are none
+abbrev pub reception_of : List ℕ → List ℕ → Reception
+reception_of bytes marks = record {
+  preambles = preambles_of bytes;
+  span = span_of bytes;
+  marks = fold bit_or 0 (drop (preambles_of bytes) marks);
 }
+
+abbrev pub received : List Character → Reception
+received characters = reception_of (bytes_in characters) (map (λ c. c.marks) characters)
 
 -- a count of preambles as far as it matters
 abbrev pub enough : ℕ → ℕ
@@ -40,6 +44,12 @@ pub record Keeps (x : Reception) (characters : List Character) : Type 0 where
   pub preambles : enough x.preambles ≡ enough (preambles_of (bytes_in characters))
   pub span : x.span ≡ span_of (bytes_in characters)
   pub marks : x.marks ≡ (received characters).marks
+
+-- of all characters that have these bytes and these marks, this is what is kept
+abbrev pub KeepsThese : Reception → List ℕ → List ℕ → Type 0
+KeepsThese x bytes marks =
+    (characters : List Character) → bytes_in characters ≡ bytes
+    → map (λ c. c.marks) characters ≡ marks → Keeps x characters
 
 -- whether some character from the start on has the mark of a bit
 abbrev pub marked? : ℕ → List Character → Bool

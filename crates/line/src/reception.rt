@@ -1,13 +1,13 @@
 //! What a receiver keeps of a transmission.
 
-ghost use Rattle.std.specs.Prelude.{◌≡◌, ◌≢◌, ◌<◌, length, slice_index};
-ghost use Rattle.frame.specs.Transmissions.{preamble};
+ghost use Rattle.std.specs.Prelude.{◌≡◌, bit_or, drop, fold, map};
 ghost use Rattle.line.specs.Marks.{marks_number};
 
 use crate::marks::Marks;
 use frame::{Frame, MIN_PREAMBLES};
 
-/// What a receiver keeps of a transmission: some characters leave it.
+/// What a receiver keeps of a transmission. Any value may stand here, also one that no characters
+/// leave.
 #[derive(Clone, Copy)]
 pub struct Received<'a> {
     /// The preambles counted; two stand for more.
@@ -16,17 +16,28 @@ pub struct Received<'a> {
     pub span: &'a [u8],
     /// All marks from the start on together.
     pub marks: Marks,
-    // A span does not begin with a preamble.
-    pub ghost begun: { 0 < length span.now → slice_index span.now 0 ≢ preamble },
-    // Marks begin with the span.
-    pub ghost unmarked: { length span.now ≡ 0 → marks_number marks ≡ 0 },
 }
 
 impl<'a> Received<'a> {
     ghost use Rattle.std.specs.Option.{option_map};
     ghost use Rattle.frame.specs.Views.{frame_parts};
+    ghost use Rattle.line.specs.Characters.{reception_of, KeepsThese};
     ghost use Rattle.line.specs.Views.{reception};
     ghost use Rattle.line.specs.Whole.{frame_of, sound?, error_status, TellsWhole, TellsSound, TellsDamage};
+
+    /// Of the bytes of a transmission and the marks of its characters. Marks that are missing are
+    /// none.
+    pub fn of(bytes: &'a [u8], marks: &[Marks]) -> Received<'a>
+        ensures value { reception result ≡ reception_of bytes.now (map marks_number marks.now) }
+        ensures keeps { KeepsThese (reception result) bytes.now (map marks_number marks.now) }
+    {
+        let preambles = frame::count_preambles(bytes);
+        Received {
+            preambles,
+            span: &bytes[preambles..],
+            marks: marks_from(marks, preambles),
+        }
+    }
 
     /// The frame of a whole transmission, sound or not.
     pub fn frame(self) -> Option<Frame<'a>>
@@ -58,4 +69,25 @@ impl<'a> Received<'a> {
         let wrong_check = if frame::check(self.span) == 0 { 0 } else { 8 };
         128 + parity + overrun + framing + wrong_check
     }
+}
+
+// All marks from a place on together.
+fn marks_from(marks: &[Marks], start: usize) -> Marks
+    ensures { marks_number result ≡ fold bit_or 0 (drop start (map marks_number marks.now)) }
+{
+    if start < marks.len() {
+        together(&marks[start..])
+    } else {
+        Marks::NONE
+    }
+}
+
+fn together(marks: &[Marks]) -> Marks
+    ensures { marks_number result ≡ fold bit_or 0 (map marks_number marks.now) }
+{
+    let mut all = Marks::NONE;
+    for mark in marks {
+        all = all.or(*mark);
+    }
+    all
 }

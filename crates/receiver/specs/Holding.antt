@@ -1,5 +1,5 @@
 -- A receiver that holds a transmission.
-use Rattle.std.specs.Prelude.{◌≡◌, ℕ, ◌<◌, List, [], ◌∷◌, ◌++◌, map, replicate, Option, if◌then◌else◌}
+use Rattle.std.specs.Prelude.{◌≡◌, ◌≢◌, ℕ, ◌<◌, List, [], ◌∷◌, ◌++◌, length, map, replicate, slice_index, Option, if◌then◌else◌}
 use Rattle.std.specs.List.{AllByRecursion}
 use Rattle.std.specs.Option.{MatchOption}
 use Rattle.frame.specs.Transmissions.{preamble}
@@ -44,3 +44,8 @@ pending r = pending_of (held r)
 abbrev pub KeepsAll : Receiver → Option Reception → Type 0
 KeepsAll r handed =
     MatchOption handed (Unit {0}) (λ x. (t : List Character) → Holds r t → Keeps x t)
+
+-- the span does not begin with a preamble, and marks begin with the span
+pub record FromStart (x : Reception) : Type 0 where
+  pub begun : 0 < length x.span → slice_index x.span 0 ≢ preamble
+  pub unmarked : length x.span ≡ 0 → x.marks ≡ 0

@@ -1,10 +1,10 @@
 //! Characters taken one by one.
 
-ghost use Rattle.std.specs.Prelude.{◌≡◌, [], bit_or};
+ghost use Rattle.std.specs.Prelude.{◌≡◌, [], IfSome, bit_or};
 ghost use Rattle.std.specs.Option.{option_map};
 ghost use Rattle.line.specs.Marks.{marks_number};
 ghost use Rattle.line.specs.Views.{reception};
-ghost use Rattle.receiver.specs.Holding.{Holds, HoldsMore, KeepsAll, character, pending};
+ghost use Rattle.receiver.specs.Holding.{Holds, HoldsMore, KeepsAll, FromStart, character, pending};
 ghost use Rattle.receiver.specs.Summaries.{pushed, held, handed_on};
 
 use crate::state::{MAX_SPAN, Receiver};
@@ -64,6 +64,7 @@ impl Receiver {
     /// What was received, unless it is too long to be whole.
     pub fn received(&self) -> Option<Received<'_>>
         ensures value { option_map reception result ≡ handed_on (held self.now) }
+        ensures start { IfSome (option_map reception result) FromStart }
         ensures keeps { KeepsAll self.now (option_map reception result) }
         ensures holds { Holds self.now (pending self.now) }
     {
