@@ -7,16 +7,16 @@
 //! the other channels' shares. Bytes are capital hexadecimal, '-' where there are none.
 #![tactic(auto)]
 
-mod channels;
+mod heard;
+mod outcome;
+mod responding;
 mod told;
 
 use anyhow::anyhow;
-use channels::Channel;
-use line::{ANSWER_ROOM, Given, Marks, Request};
-use receiver::Receiver;
-use record::RECORD_LENGTH;
-use refusals::Refusal;
-use single::Single;
+use heard::Heard;
+use line::{Given, Request};
+use outcome::Outcome;
+use record::{RECORD_LENGTH, Record, record_at};
 use std::alloc::Global;
 use tables::{UNTOUCHED, from_bytes, to_bytes};
 
@@ -71,24 +71,20 @@ fn respond(rt: &HostRuntime, words: &[&str]) -> anyhow::Result<()> {
     let [row, supply, others, bytes, marks, length] = words else {
         return Err(anyhow!("a call of another form"));
     };
-    let row = to_bytes(rt.alloc(), row)?;
-    let row = <[u8; RECORD_LENGTH]>::try_from(row.as_slice())?;
+    let record = record(rt.alloc(), row)?;
     let given = given(supply, others)?;
-    let receiver = heard(rt.alloc(), bytes, marks)?;
-    let mut out = vec![in rt.alloc(); UNTOUCHED; length.parse()?]?;
-    if out.as_slice().len() < ANSWER_ROOM {
-        return refused(rt, Refusal::ShortBuffer);
-    }
-    let mut rack = Single::blank();
-    if let Err(fault) = rack.fill(&row) {
-        return refused(rt, fault.refusal());
-    }
-    let channel = Channel { rack, given };
-    channel.tell(rt, &receiver, out.as_mut_slice())
+    let length = length.parse::<usize>()?;
+    let bytes = to_bytes(rt.alloc(), bytes)?;
+    let marks = to_bytes(rt.alloc(), marks)?;
+    let heard = Heard::of(bytes.as_slice(), marks.as_slice());
+    answer(rt, record, given, heard, length)
 }
 
-fn refused(rt: &HostRuntime, refusal: Refusal) -> anyhow::Result<()> {
-    Ok(println!(rt; "refused {}", refusal.number())?)
+// The record of a row, lawful or not.
+fn record(heap: Global, row: &str) -> anyhow::Result<Record> {
+    let row = to_bytes(heap, row)?;
+    let row = <[u8; RECORD_LENGTH]>::try_from(row.as_slice())?;
+    Ok(record_at(&row))
 }
 
 fn given(supply: &str, others: &str) -> anyhow::Result<Given> {
@@ -97,14 +93,21 @@ fn given(supply: &str, others: &str) -> anyhow::Result<Given> {
     Ok(Given { supply, others })
 }
 
-// A receiver that took these characters; marks that are missing are 0.
-fn heard(heap: Global, bytes: &str, marks: &str) -> anyhow::Result<Receiver> {
-    let bytes = to_bytes(heap, bytes)?;
-    let marks = to_bytes(heap, marks)?;
-    let mut receiver = Receiver::new();
-    for (place, byte) in bytes.as_slice().iter().enumerate() {
-        let mark = marks.as_slice().get(place).copied().unwrap_or(0);
-        receiver.push(*byte, Marks::try_from(mark)?);
-    }
-    Ok(receiver)
+fn answer(
+    rt: &HostRuntime,
+    before: Record,
+    given: Given,
+    heard: Heard<'_>,
+    length: usize,
+) -> anyhow::Result<()> {
+    let mut out = vec![in rt.alloc(); UNTOUCHED; length]?;
+    let mut after = before;
+    let answer = responding::respond(heard, &mut after, &given, out.as_mut_slice());
+    let outcome = Outcome {
+        answer,
+        before,
+        after,
+        out: out.as_slice(),
+    };
+    outcome.tell(rt)
 }

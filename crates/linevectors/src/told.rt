@@ -8,17 +8,8 @@ use record::{Fields, LABELS, MESSAGE, Reading, Record};
 /// A lawful record.
 #[derive(Clone, Copy)]
 pub struct Told {
-    record: Record,
-    ghost lawful: { Lawful «record» },
-}
-
-impl Told {
-    pub fn of(record: Record) -> Option<Told> {
-        if !record::lawful(&record) {
-            return None;
-        }
-        Some(Told { record })
-    }
+    pub record: Record,
+    pub ghost lawful: { Lawful «record» },
 }
 
 impl ReplySource for Told {

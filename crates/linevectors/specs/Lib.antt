@@ -1,0 +1,3 @@
+pub mod Hearing
+pub mod Writing
+pub mod Responses
