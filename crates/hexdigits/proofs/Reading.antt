@@ -1,5 +1,5 @@
 -- The reading of hexadecimal text, one byte after another.
-use Rattle.std.proofs.Common.{◌≡◌, ℕ, true, false, ◌&&◌, is_some, zero, suc, ◌+◌, ◌*◌, ◌/◌, ◌%◌, ◌<◌, ◌≤◌, List, [], ◌∷◌, ◌++◌, length, get_or, take, drop, Some, None, Option, Err, Result, sym, refl, ap, ◌∙◌, append_assoc, add-one, arith}
+use Rattle.std.proofs.Common.{◌≡◌, ℕ, Bool, if◌then◌else◌, true, false, ◌&&◌, is_some, zero, suc, ◌+◌, ◌*◌, ◌/◌, ◌%◌, ◌<◌, ◌≤◌, List, [], ◌∷◌, ◌++◌, length, get_or, take, drop, Some, None, Option, Err, Result, sym, refl, ap, ◌∙◌, append_assoc, add-one, arith}
 use lib.Utf8.{encode}
 use Rattle.std.specs.Simd.{first_chunks}
 use Rattle.std.proofs.lemmas.Str.Ascii.{encode_ascii}
@@ -8,9 +8,9 @@ use Rattle.std.specs.List.{AllByRecursion, list_all}
 use Rattle.std.proofs.lemmas.Bool.Decides.{nat_tests}
 use Rattle.std.specs.Option.{ok_or}
 use Rattle.hexdigits.specs.declared.HexFault.{HexFault}
-use Rattle.hexdigits.specs.declared.HexFault.TheVariants.{NotHex}
+use Rattle.hexdigits.specs.declared.HexFault.TheVariants.{NotHex, Memory}
 use Rattle.hexdigits.specs.Hex.{digit_of, hex_of, value_of, byte_of, pair?, before, bytes_of}
-use Rattle.hexdigits.specs.Answers.{some_bytes?}
+use Rattle.hexdigits.specs.Answers.{some_bytes?, Reads}
 
 digit_back : (n : ℕ) → n < 16 → value_of (digit_of n) ≡ Some n
 digit_back n h = grind (arith, nat_tests)
@@ -69,6 +69,16 @@ pub all_kept : (pairs : List (List ℕ)) → list_all pair? pairs ≡ true → 0
 all_kept [] h l = absurd (omega arith)
 all_kept (p ∷ pairs) h l = kept (byte_of (get_or p 0 0) (get_or p 1 0)) (in_pairs pairs) (all_some (p ∷ pairs) ∙ h)
 
+-- want of memory for the bytes of pairs of which there is one
+told_by : (all : Bool) (pairs : List (List ℕ)) (text : List ℕ) (fault : HexFault) → list_all pair? pairs ≡ all
+    → fault ≡ (if all then Memory else NotHex) → in_pairs pairs ≡ bytes_of text → 0 < length pairs → Reads (bytes_of text) (Err fault)
+told_by true pairs text fault h e r l = rw e (ap some_bytes? (sym r) ∙ all_kept pairs h l)
+told_by false pairs text fault h e r l = rw e (sym r ∙ not_all pairs h)
+
+pub fault_told : (pairs : List (List ℕ)) (text : List ℕ) (fault : HexFault) → fault ≡ (if list_all pair? pairs then Memory else NotHex)
+    → in_pairs pairs ≡ bytes_of text → 0 < length pairs → Reads (bytes_of text) (Err fault)
+fault_told pairs text fault = told_by (list_all pair? pairs) pairs text fault refl
+
 -- a loop that has read the bytes `front` of pairs: at a pair that is no byte, at one more, and at the end
 module _ (pairs : List (List ℕ)) (front : List ℕ) (i : ℕ) (inv : after front (in_pairs (drop i pairs)) ≡ in_pairs pairs) where
   abbrev next : Option ℕ
@@ -96,6 +106,11 @@ hex_back (b ∷ bytes) h = rw (pair_back b h.0, hex_back bytes h.1) refl
 
 digit_ascii : (n : ℕ) → n < 16 → digit_of n < 128
 digit_ascii n h = grind (arith, nat_tests)
+
+-- digits are ASCII
+pub hex_ascii : (bytes : List ℕ) → AllByRecursion (λ b. b < 256) bytes → AllByRecursion (λ d. d < 128) (hex_of bytes)
+hex_ascii [] h = tt
+hex_ascii (b ∷ bytes) h = (digit_ascii (b / 16) (omega arith), (digit_ascii (b % 16) (omega arith), hex_ascii bytes h.1))
 
 -- the digits of one byte more
 taken : (i : ℕ) (bytes : List ℕ) → i < length bytes → hex_of (take (suc i) bytes) ≡ hex_of (take i bytes) ++ (digit_of (get_or bytes i 0 / 16) ∷ digit_of (get_or bytes i 0 % 16) ∷ [])

@@ -3,7 +3,7 @@
 
 ghost use Rattle.std.specs.Prelude.{◌≡◌, ◌*◌, ◌<◌, ◌≤◌, [], ◌++◌, take, length, if◌then◌else◌, is_ok, IfSome, IfOk, OnOk, Some, string_bytes};
 ghost use Rattle.std.specs.List.{list_all};
-ghost use Rattle.hexdigits.specs.declared.HexFault.TheVariants.{Memory};
+ghost use Rattle.hexdigits.specs.declared.HexFault.TheVariants.{NotHex, Memory};
 ghost use Rattle.hexdigits.specs.Hex.{digit_of, hex_of, value_of, byte_of, pair?, bytes_of};
 ghost use Rattle.hexdigits.specs.Answers.{Reads, words_of};
 
@@ -93,7 +93,13 @@ pub fn to_hex(heap: Global, bytes: &[u8]) -> Result<String, AllocError>
     ensures text { IfOk result (λ text. string_bytes text ≡ hex_of bytes.now) }
     ensures back { bytes_of (hex_of bytes.now) ≡ Some bytes.now }
 {
-    format!(in heap; "{}", Hex(bytes))
+    // By parts, and not by a formatter: that costs some fifty steps a digit.
+    let mut text = Vec::with_capacity(heap, 2 * bytes.len())?;
+    push_hex(&mut text, bytes)?;
+    match String::from_utf8(text) {
+        Ok(text) => Ok(text),
+        Err(_) => unreachable!(),
+    }
 }
 
 /// Appends the digits of `bytes`, which read back to them; where memory is short, the text is as it was.
@@ -145,7 +151,18 @@ fn all_bytes(pairs: &[[u8; 2]]) -> bool
     pairs.iter().all(|pair| byte(pair[0], pair[1]).is_some())
 }
 
-/// Reads the bytes of a hexadecimal text. All of it is judged before memory is asked for.
+// Why bytes were not kept for which there was no memory: want of it is told only of a text that is hexadecimal.
+fn not_kept(pairs: &[[u8; 2]]) -> HexFault
+    ensures { result ≡ (if list_all pair? pairs.now then Memory else NotHex) }
+{
+    if all_bytes(pairs) {
+        HexFault::Memory
+    } else {
+        HexFault::NotHex
+    }
+}
+
+/// Reads the bytes of a hexadecimal text.
 pub fn parse_hex(heap: Global, text: &[u8]) -> Result<Vec<u8>, HexFault>
     ensures { Reads (bytes_of text.now) result }
 {
@@ -153,13 +170,12 @@ pub fn parse_hex(heap: Global, text: &[u8]) -> Result<Vec<u8>, HexFault>
     if !rest.is_empty() {
         return Err(HexFault::NotHex);
     }
-    if !all_bytes(pairs) {
-        return Err(HexFault::NotHex);
-    }
     let mut bytes = Vec::new(heap);
     for pair in pairs {
         let [high, low] = *pair;
-        bytes.push(byte(high, low).ok_or(HexFault::NotHex)?)?;
+        let Ok(()) = bytes.push(byte(high, low).ok_or(HexFault::NotHex)?) else {
+            return Err(not_kept(pairs));
+        };
     }
     Ok(bytes)
 }

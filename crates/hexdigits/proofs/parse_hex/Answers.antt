@@ -2,8 +2,7 @@ use Rattle.std.proofs.Common.{ℕ, ◌<◌, List, ◌%◌, ◌/◌, ◌≡◌, a
 use Rattle.std.proofs.lemmas.Result.{err_from_is_err_and}
 use Rattle.std.specs.Simd.{first_chunks}
 use Rattle.hexdigits.specs.Hex.{bytes_of}
-use Rattle.hexdigits.specs.Answers.{some_bytes?}
-use Rattle.hexdigits.proofs.Reading.{in_pairs, pairs_read, odd, at_none, at_end, refused, not_all, all_kept}
+use Rattle.hexdigits.proofs.Reading.{in_pairs, pairs_read, odd, at_none, at_end, refused, fault_told}
 use Rattle.hexdigits.proofs.parse_hex.Goals as goal
 
 -- a text of an even length is read in pairs
@@ -23,14 +22,7 @@ returns-in_err-ok_or c =
 pub returns : goal.returns
 returns c = sym (even c.args.text.now c.as_chunks.result.0.now (sym c.as_chunks.ensures.back_len ∙ true-eqb (length c.as_chunks.result.1.now) 0 c.if-not-is_empty.ensures) c.as_chunks.ensures.front) ∙ at_end c.as_chunks.result.0.now _ c.loop-pair.pair-index c.loop-pair.invariant (omega arith)
 
-pub returns-then-not-all_bytes : goal.returns-then-not-all_bytes
-returns-then-not-all_bytes c =
+pub returns-in_default : goal.returns-in_default
+returns-in_default c =
     let e = even c.args.text.now c.as_chunks.result.0.now (sym c.as_chunks.ensures.back_len ∙ true-eqb (length c.as_chunks.result.1.now) 0 c.if-not-is_empty.ensures) c.as_chunks.ensures.front in
-    sym e ∙ not_all c.as_chunks.result.0.now (sym c.if-not-all_bytes.ensures)
-
-pub returns-in_err-push : goal.returns-in_err-push
-returns-in_err-push c =
-    let p = err_from_is_err_and c.from_residual-in_err-push.result c.from_residual-in_err-push.ensures.1 in
-    let e = even c.args.text.now c.as_chunks.result.0.now (sym c.as_chunks.ensures.back_len ∙ true-eqb (length c.as_chunks.result.1.now) 0 c.if-not-is_empty.ensures) c.as_chunks.ensures.front in
-    let more : 0 < length c.as_chunks.result.0.now = omega arith in
-    rw (p.1, p.2) (ap some_bytes? (sym e) ∙ all_kept c.as_chunks.result.0.now (sym c.if-not-all_bytes.ensures) more)
+    fault_told c.as_chunks.result.0.now c.args.text.now c.not_kept.result c.not_kept.ensures e (omega arith)
