@@ -64,7 +64,8 @@ fn answer(
 ) -> Result<usize, Refusal>
     requires room { answer_room ≤ length out.old }
     requires lawful { Lawful «record».old }
-    ensures does { let a = answering_at (reception heard.entry) (allotment_in given.now) «record».old
+    ensures does { let a =
+        answering_at (reception heard.entry) (allotment_in given.now) «record».old
         (frame_parts frame.entry) in
         Does a «record».new out.old out.new (numbered result) }
     ensures lawful { Lawful «record».new }
