@@ -2,9 +2,9 @@
 //!
 //!     request COMMAND DATA     respond RECORD SUPPLY OTHERS BYTES MARKS LENGTH
 //!
-//! The first asks which request a command with its data is. The second lets the channel with this record, alone in a rack, answer
-//! the characters with these bytes and marks, into a buffer of LENGTH bytes A5, under a header with this supply and this sum of
-//! the other channels' shares. Bytes are capital hexadecimal, '-' where there are none.
+//! The first asks which request a command with its data is. The second lets the channel with this record answer the characters
+//! with these bytes and marks, into a buffer of LENGTH bytes A5, under a header with this supply and this sum of the other
+//! channels' shares. Bytes are capital hexadecimal, '-' where there are none.
 #![tactic(auto)]
 
 mod heard;
