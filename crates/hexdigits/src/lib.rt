@@ -93,7 +93,7 @@ pub fn to_hex(heap: Global, bytes: &[u8]) -> Result<String, AllocError>
     ensures text { IfOk result (λ text. string_bytes text ≡ hex_of bytes.now) }
     ensures back { bytes_of (hex_of bytes.now) ≡ Some bytes.now }
 {
-    // By parts, and not by a formatter: that costs some fifty steps a digit.
+    // By parts: a formatter takes some fifty steps for each digit.
     let mut text = Vec::with_capacity(heap, 2 * bytes.len())?;
     push_hex(&mut text, bytes)?;
     match String::from_utf8(text) {

@@ -10,7 +10,7 @@ going? (Waiting pause) = false
 going? Ended = false
 going? (Interrupted interruption) = false
 
--- it was not interrupted: no line was lost, and the input did not fail
+-- it was not interrupted: then no line was lost, and the input did not fail
 abbrev pub complete? : Progress → Bool
 complete? Going = true
 complete? (Waiting pause) = true

@@ -38,7 +38,7 @@ impl<R: Read + Drop, W: Write + Drop> Player<R, W> {
         }
     }
 
-    /// Whether no line was lost, and the input did not fail.
+    /// Whether it was not interrupted: then no line was lost, and the input did not fail.
     pub fn is_complete(&self) -> bool
         ensures { result ≡ complete? self.now.progress }
     {

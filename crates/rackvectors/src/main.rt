@@ -92,7 +92,8 @@ fn change_of(heap: Global, kind: &str, value: &str) -> anyhow::Result<Change<'st
     }
 }
 
-// The pattern of a word, which is first read as bytes: so digits are told apart from a length.
+// The pattern of a word. It is read as bytes first, so that what is no digits is told as such, and digits of another number by
+// their length.
 fn pattern(heap: Global, word: &str) -> anyhow::Result<u32>
     ensures { IfOk result (λ pattern. pattern_at word.now ≡ Ok pattern) }
 {

@@ -12,7 +12,7 @@ use shelf::Shelf;
 use single::Single;
 use tables::{Byte, Checked, Filled, to_bytes};
 
-// What is told of a record of more or fewer bytes: the language's words for a slice that is no array of a length.
+// What is told of a record that has not 80 bytes: the words of the language's own error where a slice is no array.
 const ANOTHER_LENGTH: &str = "could not convert slice to array";
 
 fn main(rt: HostRuntime) -> anyhow::Result<()> {
