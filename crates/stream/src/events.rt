@@ -11,7 +11,7 @@ use std::ops::Range;
 pub(crate) const BLOCK_LENGTH: usize = 5461 * EVENT_LENGTH;
 
 /// How many bytes each read has room for at least: where it takes a part of what came as one, as of a packet, the rest may be lost.
-pub(crate) const LEAST_ROOM: usize = 4096;
+pub(crate) const MIN_ROOM: usize = 4096;
 
 /// A recording that is read by blocks. Lines are kept until more of it is read.
 #[derive(Drop)]

@@ -9,7 +9,7 @@ ghost use Rattle.stream.specs.Blocks.{block_length, least_room};
 ghost use Rattle.stream.specs.Interruptions.{OfStream, Finishes};
 ghost use Rattle.stream.specs.Streams.{unread_of, WholeEvent, NoWholeEvent, view_of, begun, with_told, with_rest, TakesWhole, OutputHolds, WrittenOut, WrittenFirst, NoneLost, Gives, TakesNext, ReadOn};
 
-use crate::events::{BLOCK_LENGTH, EventStream, LEAST_ROOM};
+use crate::events::{BLOCK_LENGTH, EventStream, MIN_ROOM};
 use crate::interruption::Interruption;
 use calls::Response;
 use recording::{EVENT_LENGTH, push_line};
@@ -120,7 +120,7 @@ impl<R: Read + Drop, W: Write + Drop> EventStream<R, W> {
         ensures lines { self.new.lines ≡ self.old.lines }
     {
         let end = self.unread.end;
-        if end > BLOCK_LENGTH - LEAST_ROOM {
+        if end > BLOCK_LENGTH - MIN_ROOM {
             let part = end % EVENT_LENGTH;
             self.block.copy_within(end - part..end, 0);
             self.unread = 0..part;
